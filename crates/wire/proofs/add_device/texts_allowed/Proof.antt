@@ -1,0 +1,15 @@
+-- `wire::add_device::texts_allowed` meets its contract.
+use borrow.Author.Needs.{needs}
+use borrow.Author.Tests.{not-false, not-true}
+use Rattle.wire.proofs.Tests.{tests}
+use Rattle.wire.proofs.add_device.texts_allowed.Statement.{statement}
+use Rattle.wire.proofs.add_device.texts_allowed.Tie as tie
+
+pub texts-allowed-spec : {M : Type 1} → statement M
+texts-allowed-spec =
+    tie.close
+    (tie.spec
+    (search needs)
+    (λ c. search (tests, ← (c .before .allowed .ensures), not-true (c .before .allowed .result) (c .if1 .taken)))
+    (search needs)
+    (λ c. search (tests, ← (c .before .before .allowed .ensures), not-false (c .before .before .allowed .result) (c .before .if1 .left), ← (c .list-allowed .ensures))))

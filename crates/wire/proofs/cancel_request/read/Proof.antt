@@ -1,0 +1,19 @@
+-- `wire::cancel_request::read` meets its contract.
+use borrow.Author.Needs.{needs}
+use Rattle.wire.specs.CancelRequest.{cancelRequestOf}
+use Rattle.wire.proofs.Tests.{tests}
+use Rattle.wire.proofs.cancel_request.read.Statement.{statement}
+use Rattle.wire.proofs.cancel_request.read.Tie as tie
+
+pub read-spec : {M : Type 1} → statement M
+unfolding cancelRequestOf
+read-spec =
+    tie.close
+    (tie.spec
+    (search needs)
+    (λ c. search (tests, ← (c .before .rest .ensures)))
+    (search needs)
+    (λ c. search (tests, ← (c .before .before .before .rest .ensures), ← (c .before .rest2 .ensures)))
+    (search needs)
+    (search needs)
+    (λ c. search (tests, ← (c .before .before .before .before .before .rest .ensures), ← (c .before .before .before .rest2 .ensures), ← (c .before .u32-at .ensures), ← (c .of-word .ensures))))

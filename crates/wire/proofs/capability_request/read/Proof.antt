@@ -1,0 +1,18 @@
+-- `wire::capability_request::read` meets its contract.
+use borrow.Author.Needs.{needs}
+use Rattle.wire.specs.CapabilityRequest.{capabilityRequestOf}
+use Rattle.wire.proofs.Tests.{tests}
+use Rattle.wire.proofs.capability_request.read.Statement.{statement}
+use Rattle.wire.proofs.capability_request.read.Tie as tie
+
+pub read-spec : {M : Type 1} → statement M
+unfolding capabilityRequestOf
+read-spec =
+    tie.close
+    (tie.spec
+    (search needs)
+    (λ c. search (tests, ← (c .before .rest .ensures)))
+    (search needs)
+    (λ c. search (tests, ← (c .before .before .before .rest .ensures), ← (c .before .rest2 .ensures)))
+    (search needs)
+    (λ c. search (tests, ← (c .before .before .before .before .rest .ensures), ← (c .before .before .rest2 .ensures), ← (c .u32-at .ensures))))

@@ -1,0 +1,21 @@
+-- `wire::capability_response::read` meets its contract.
+use borrow.Author.Needs.{needs}
+use Rattle.wire.specs.CapabilityResponse.{capabilityResponseOf}
+use Rattle.wire.proofs.Tests.{tests}
+use Rattle.wire.proofs.capability_response.read.Statement.{statement}
+use Rattle.wire.proofs.capability_response.read.Tie as tie
+
+pub read-spec : {M : Type 1} → statement M
+unfolding capabilityResponseOf
+read-spec =
+    tie.close
+    (tie.spec
+    (search needs)
+    (λ c. search (tests, ← (c .before .rest .ensures)))
+    (search needs)
+    (λ c. search (tests, ← (c .before .before .before .rest .ensures), ← (c .before .rest2 .ensures)))
+    (search needs)
+    (λ c. search (tests, ← (c .before .before .before .before .before .rest .ensures), ← (c .before .before .before .rest2 .ensures), ← (c .before .rest3 .ensures)))
+    (search needs)
+    (search needs)
+    (λ c. search (tests, ← (c .before .before .before .before .before .before .before .rest .ensures), ← (c .before .before .before .before .before .rest2 .ensures), ← (c .before .before .before .rest3 .ensures), ← (c .before .u32-at .ensures), ← (c .u32-at2 .ensures))))

@@ -1,0 +1,12 @@
+-- `wire::device_capabilities::usbdi_allowed` meets its contract.
+use borrow.Author.Needs.{needs}
+use Rattle.wire.proofs.Tests.{tests}
+use Rattle.wire.proofs.device_capabilities.usbdi_allowed.Statement.{statement}
+use Rattle.wire.proofs.device_capabilities.usbdi_allowed.Tie as tie
+
+pub usbdi-allowed-spec : {M : Type 1} → statement M
+usbdi-allowed-spec =
+    tie.close
+    (tie.spec
+    (λ c. search tests)
+    (λ c. search tests))

@@ -1,0 +1,16 @@
+-- `wire::kind::calls_known` meets its contract.
+use borrow.Author.Needs.{needs}
+use Rattle.wire.proofs.Tests.{tests}
+use Rattle.wire.proofs.kind.calls_known.Statement.{statement}
+use Rattle.wire.proofs.kind.calls_known.Tie as tie
+
+pub calls-known-spec : {M : Type 1} → statement M
+calls-known-spec =
+    tie.close
+    (tie.spec
+    (search needs)
+    (search needs)
+    (search needs)
+    (search needs)
+    (λ c. search (tests, c .enum-told .given .1))
+    (λ c. search (tests, c .before .before .before .known .given .1, ← (c .before .number .ensures), ← (c .calls-at .ensures))))

@@ -1,0 +1,18 @@
+-- `wire::retract_device::read` meets its contract.
+use borrow.Author.Needs.{needs}
+use Rattle.wire.specs.RetractDevice.{retractDeviceOf}
+use Rattle.wire.proofs.Tests.{tests}
+use Rattle.wire.proofs.retract_device.read.Statement.{statement}
+use Rattle.wire.proofs.retract_device.read.Tie as tie
+
+pub read-spec : {M : Type 1} → statement M
+unfolding retractDeviceOf
+read-spec =
+    tie.close
+    (tie.spec
+    (search needs)
+    (λ c. search (tests, ← (c .before .rest .ensures)))
+    (search needs)
+    (λ c. search (tests, ← (c .before .before .before .rest .ensures), ← (c .before .rest2 .ensures)))
+    (search needs)
+    (λ c. search (tests, ← (c .before .before .before .before .rest .ensures), ← (c .before .before .rest2 .ensures), ← (c .u32-at .ensures))))

@@ -1,0 +1,17 @@
+-- `wire::transfer::output` meets its contract.
+use borrow.Author.Needs.{needs}
+use Rattle.wire.specs.Transfer.{outputOf}
+use Rattle.wire.proofs.Tests.{tests}
+use Rattle.wire.proofs.transfer.output.Statement.{statement}
+use Rattle.wire.proofs.transfer.output.Tie as tie
+
+pub output-spec : {M : Type 1} → statement M
+unfolding outputOf
+output-spec =
+    tie.close
+    (tie.spec
+    (search needs)
+    (λ c. search (tests, ← (c .before .rest .ensures)))
+    (search needs)
+    (search needs)
+    (λ c. search (tests, ← (c .before .before .rest .ensures), ← (c .u32-at .ensures))))

@@ -1,0 +1,20 @@
+-- `wire::transfer_out_request::outgoing` meets its contract.
+use borrow.Author.Needs.{needs}
+use Rattle.wire.specs.TransferOutRequest.{outgoingOf}
+use Rattle.wire.proofs.Tests.{tests}
+use Rattle.wire.proofs.transfer_out_request.outgoing.Statement.{statement}
+use Rattle.wire.proofs.transfer_out_request.outgoing.Tie as tie
+
+pub outgoing-spec : {M : Type 1} → statement M
+unfolding outgoingOf
+outgoing-spec =
+    tie.close
+    (tie.spec
+    (search needs)
+    (search needs)
+    (λ c. search (tests, ← (c .before .rest .ensures)))
+    (λ c. search (tests, ← (c .before .before .before .rest .ensures)))
+    (search needs)
+    (search needs)
+    (λ c. search (tests, ← (c .before .before .before .before .before .rest .ensures), ← (c .before .rest2 .ensures)))
+    (λ c. search (tests, ← (c .before .before .before .before .before .before .rest .ensures), ← (c .before .before .rest2 .ensures))))

@@ -1,0 +1,19 @@
+-- `wire::urb_completion_no_data::read` meets its contract.
+use borrow.Author.Needs.{needs}
+use Rattle.wire.specs.UrbCompletionNoData.{urbCompletionNoDataOf}
+use Rattle.wire.proofs.Tests.{tests}
+use Rattle.wire.proofs.urb_completion_no_data.read.Statement.{statement}
+use Rattle.wire.proofs.urb_completion_no_data.read.Tie as tie
+
+pub read-spec : {M : Type 1} → statement M
+unfolding urbCompletionNoDataOf
+read-spec =
+    tie.close
+    (tie.spec
+    (search needs)
+    (search needs)
+    (search needs)
+    (search needs)
+    (λ c. search (tests, ← (c .before .before .before .before .before .read .ensures), c .before .before .before .c .given .1, ← (c .before .rest .ensures)))
+    (λ c. search (tests, ← (c .before .before .before .read .ensures), c .before .fault .given .1))
+    (λ c. search (tests, ← (c .before .before .before .before .before .before .before .read .ensures), c .before .before .before .before .before .c .given .1, ← (c .before .before .before .rest .ensures))))

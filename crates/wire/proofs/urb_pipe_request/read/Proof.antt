@@ -1,0 +1,14 @@
+-- `wire::urb_pipe_request::read` meets its contract.
+use borrow.Author.Needs.{needs}
+use Rattle.wire.proofs.Tests.{tests}
+use Rattle.wire.proofs.urb_pipe_request.read.Statement.{statement}
+use Rattle.wire.proofs.urb_pipe_request.read.Tie as tie
+
+pub read-spec : {M : Type 1} → statement M
+read-spec =
+    tie.close
+    (tie.spec
+    (search needs)
+    (λ c. search (tests, ← (c .before .rest .ensures)))
+    (search needs)
+    (λ c. search (tests, ← (c .before .before .rest .ensures), ← (c .u32-at .ensures))))

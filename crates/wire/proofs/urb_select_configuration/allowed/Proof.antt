@@ -1,0 +1,15 @@
+-- `wire::urb_select_configuration::allowed` meets its contract.
+use borrow.Author.Needs.{needs}
+use Rattle.wire.proofs.Tests.{tests}
+use Rattle.wire.proofs.urb_select_configuration.allowed.Statement.{statement}
+use Rattle.wire.proofs.urb_select_configuration.allowed.Tie as tie
+
+pub allowed-spec : {M : Type 1} → statement M
+allowed-spec =
+    tie.close
+    (tie.spec
+    (λ c. search tests)
+    (λ c. search tests)
+    (λ c. search tests)
+    (λ c. search tests)
+    (λ c. search tests))

@@ -1,0 +1,20 @@
+-- 000 2.2.3.1, kind 1.
+use Prim.Native.Nat.{ℕ}
+use mathlib.Core.List.{List}
+use mathlib.Core.Bool.{Bool}
+use lib.Dec.{eqb}
+use Rattle.wire.specs.Words.{wordAt}
+use Rattle.wire.specs.Layout.{field, ended}
+use Rattle.wire.specs.declared.capability_request.CapabilityRequest.{CapabilityRequest}
+use Rattle.wire.specs.declared.reading.Reading.{Reading}
+use Rattle.wire.specs.declared.reading.Reading.the-variants.{Fits, Fails}
+use Rattle.wire.specs.declared.reading.Body.the-variants as body
+
+unfoldable pub capabilityRequestOf : List ℕ → Reading
+capabilityRequestOf m =
+    field Fails m 12 4
+    (ended Fails m 16
+    (Fits (body.CapabilityRequest (record { capability = wordAt m 12 }))))
+
+abbrev pub capabilityRequestAllowed : CapabilityRequest → Bool
+capabilityRequestAllowed b = eqb (b .capability) 1

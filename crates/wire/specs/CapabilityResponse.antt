@@ -1,0 +1,22 @@
+-- 000 2.2.3.2, kind 2: its body starts at 8.
+use Prim.Native.Nat.{ℕ}
+use mathlib.Core.List.{List}
+use mathlib.Core.Bool.{Bool, _&&_}
+use lib.Dec.{eqb, ltb}
+use Rattle.wire.specs.Words.{wordAt}
+use Rattle.wire.specs.Layout.{field, ended}
+use Rattle.wire.specs.declared.capability_response.CapabilityResponse.{CapabilityResponse}
+use Rattle.wire.specs.declared.reading.Reading.{Reading}
+use Rattle.wire.specs.declared.reading.Reading.the-variants.{Fits, Fails}
+use Rattle.wire.specs.declared.reading.Body.the-variants as body
+
+unfoldable pub capabilityResponseOf : List ℕ → Reading
+capabilityResponseOf m =
+    field Fails m 8 4
+    (field Fails m 12 4
+    (ended Fails m 16
+    (Fits (body.CapabilityResponse (record { capability = wordAt m 8; result = wordAt m 12 })))))
+
+-- CapabilityValue 1; Result with its top bit clear
+abbrev pub capabilityResponseAllowed : CapabilityResponse → Bool
+capabilityResponseAllowed b = eqb (b .capability) 1 && ltb (b .result) 0x8000_0000

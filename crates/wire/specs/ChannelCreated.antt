@@ -1,0 +1,22 @@
+-- 000 2.2.5.1, kinds 3 and 4.
+use Prim.Native.Nat.{ℕ}
+use mathlib.Core.List.{List}
+use mathlib.Core.Bool.{Bool, _&&_}
+use lib.Dec.{eqb}
+use Rattle.wire.specs.Words.{wordAt}
+use Rattle.wire.specs.Layout.{field, ended}
+use Rattle.wire.specs.declared.channel_created.ChannelCreated.{ChannelCreated}
+use Rattle.wire.specs.declared.reading.Reading.{Reading}
+use Rattle.wire.specs.declared.reading.Reading.the-variants.{Fits, Fails}
+use Rattle.wire.specs.declared.reading.Body.the-variants as body
+
+unfoldable pub channelCreatedOf : List ℕ → Reading
+channelCreatedOf m =
+    field Fails m 12 4
+    (field Fails m 16 4
+    (field Fails m 20 4
+    (ended Fails m 24
+    (Fits (body.ChannelCreated (record { major = wordAt m 12; minor = wordAt m 16; capabilities = wordAt m 20 }))))))
+
+abbrev pub channelCreatedAllowed : ChannelCreated → Bool
+channelCreatedAllowed b = eqb (b .major) 1 && (eqb (b .minor) 0 && eqb (b .capabilities) 0)

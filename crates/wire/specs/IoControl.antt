@@ -1,0 +1,24 @@
+-- 000 2.2.6.3 and 2.2.6.4, kinds 8 and 9.
+use Prim.Native.Nat.{ℕ, _+_}
+use mathlib.Core.List.{List}
+use Rattle.wire.specs.Words.{wordAt}
+use Rattle.wire.specs.Ids.{requestIn}
+use Rattle.wire.specs.Layout.{field, ended}
+use Rattle.wire.specs.declared.reading.Reading.{Reading}
+use Rattle.wire.specs.declared.reading.Reading.the-variants.{Fits, Fails}
+use Rattle.wire.specs.declared.reading.Body.the-variants as body
+
+-- a is InputBufferSize
+unfoldable pub ioControlWith : List ℕ → ℕ → Reading
+ioControlWith m a =
+    field Fails m 20 a
+    (field Fails m (20 + a) 4
+    (field Fails m (20 + a + 4) 4
+    (ended Fails m (20 + a + 8)
+    (Fits (body.IoControl (record { code = wordAt m 12; input = record { start = 20; size = a }; output = wordAt m (20 + a); request = requestIn (wordAt m (20 + a + 4)) }))))))
+
+unfoldable pub ioControlOf : List ℕ → Reading
+ioControlOf m =
+    field Fails m 12 4
+    (field Fails m 16 4
+    (ioControlWith m (wordAt m 16)))

@@ -1,0 +1,101 @@
+-- 01 "Header and kinds": the table of kinds, and the kind of a message.
+use Prim.Native.Nat.{ℕ}
+use mathlib.Core.List.{List, [], _∷_}
+use mathlib.Core.Bool.{Bool, true, false, cond, _&&_}
+use lib.Dec.{eqb}
+use Rattle.wire.specs.declared.header.Header.{Header}
+use Rattle.wire.specs.declared.ids.Known.{Known}
+use Rattle.wire.specs.declared.ids.Known.the-variants as known
+use Rattle.wire.specs.declared.kind.Kind.{Kind}
+use Rattle.wire.specs.declared.kind.Kind.the-variants.{CapabilityRequest, CapabilityResponse, ChannelCreatedByServer, ChannelCreatedByClient, AddVirtualChannel, AddDevice, CancelRequest, RegisterRequestCallback, IoControl, InternalIoControl, TransferInRequest, TransferOutRequest, RetractDevice, IoControlCompletion, UrbCompletion, UrbCompletionNoData}
+use Rattle.wire.specs.declared.kind.KindFound.{KindFound}
+use Rattle.wire.specs.declared.kind.KindFound.the-variants.{Nothing, Is}
+
+-- 01's number of each kind
+abbrev pub kindNumber : Kind → ℕ
+kindNumber CapabilityRequest = 1
+kindNumber CapabilityResponse = 2
+kindNumber ChannelCreatedByServer = 3
+kindNumber ChannelCreatedByClient = 4
+kindNumber AddVirtualChannel = 5
+kindNumber AddDevice = 6
+kindNumber CancelRequest = 13
+kindNumber RegisterRequestCallback = 7
+kindNumber IoControl = 8
+kindNumber InternalIoControl = 9
+kindNumber TransferInRequest = 10
+kindNumber TransferOutRequest = 11
+kindNumber RetractDevice = 14
+kindNumber IoControlCompletion = 15
+kindNumber UrbCompletion = 16
+kindNumber UrbCompletionNoData = 17
+
+-- a message of a side goes to an interface, by the side and with the mask of a kind
+abbrev pub addressed : Header → ℕ → ℕ → ℕ → ℕ → Bool
+addressed h side interface by mask = eqb (h .interface .0) interface && (eqb side by && eqb (h .mask) mask)
+
+abbrev pub calls : Header → ℕ → ℕ → ℕ → ℕ → ℕ → Bool
+calls h side interface by mask function = addressed h side interface by mask && eqb (h .function) function
+
+-- an interface that is not known matches nothing
+abbrev pub callsKnown : Header → ℕ → Known → ℕ → ℕ → ℕ → Bool
+callsKnown h side known.Nothing by mask function = false
+callsKnown h side (known.Is id) by mask function = calls h side (id .0) by mask function
+
+-- where a kind's messages go: to a default interface, with or without a function; to the device; to the callback
+pub data Goes : Type 0 where
+  default : ℕ → ℕ → Goes
+  nameless : ℕ → Goes
+  device : ℕ → Goes
+  callback : ℕ → Goes
+
+pub record Row : Type 0 where
+  pub kind : Kind
+  pub by : ℕ
+  pub mask : ℕ
+  pub goes : Goes
+
+abbrev pub fits : Goes → ℕ → ℕ → Header → ℕ → Known → Known → Bool
+fits (default interface function) by mask h side d c = calls h side interface by mask function
+fits (nameless interface) by mask h side d c = addressed h side interface by mask
+fits (device function) by mask h side d c = callsKnown h side d by mask function
+fits (callback function) by mask h side d c = callsKnown h side c by mask function
+
+abbrev pub firstFitting : List Row → Header → ℕ → Known → Known → KindFound
+firstFitting [] h side d c = Nothing
+firstFitting (row ∷ rows) h side d c = cond (fits (row .goes) (row .by) (row .mask) h side d c) (Is (row .kind)) (firstFitting rows h side d c)
+
+abbrev server : ℕ
+server = 1
+
+abbrev client : ℕ
+client = 2
+
+-- the rows in 01's order; Mask is 1 except for kinds 1 and 2, where it is 0
+abbrev pub completionKinds : List Row
+completionKinds =
+    record { kind = IoControlCompletion; by = client; mask = 1; goes = callback 0x100 } ∷
+    record { kind = UrbCompletion; by = client; mask = 1; goes = callback 0x101 } ∷
+    record { kind = UrbCompletionNoData; by = client; mask = 1; goes = callback 0x102 } ∷
+    []
+
+abbrev pub deviceKinds : List Row
+deviceKinds =
+    record { kind = CancelRequest; by = server; mask = 1; goes = device 0x100 } ∷
+    record { kind = RegisterRequestCallback; by = server; mask = 1; goes = device 0x101 } ∷
+    record { kind = IoControl; by = server; mask = 1; goes = device 0x102 } ∷
+    record { kind = InternalIoControl; by = server; mask = 1; goes = device 0x103 } ∷
+    record { kind = TransferInRequest; by = server; mask = 1; goes = device 0x105 } ∷
+    record { kind = TransferOutRequest; by = server; mask = 1; goes = device 0x106 } ∷
+    record { kind = RetractDevice; by = server; mask = 1; goes = device 0x107 } ∷
+    completionKinds
+
+abbrev pub kinds : List Row
+kinds =
+    record { kind = CapabilityRequest; by = server; mask = 0; goes = default 0 0x100 } ∷
+    record { kind = CapabilityResponse; by = client; mask = 0; goes = nameless 0 } ∷
+    record { kind = ChannelCreatedByServer; by = server; mask = 1; goes = default 3 0x100 } ∷
+    record { kind = ChannelCreatedByClient; by = client; mask = 1; goes = default 2 0x100 } ∷
+    record { kind = AddVirtualChannel; by = client; mask = 1; goes = default 1 0x100 } ∷
+    record { kind = AddDevice; by = client; mask = 1; goes = default 1 0x101 } ∷
+    deviceKinds

@@ -1,0 +1,32 @@
+-- 000 2.2.6.2, kind 7: a RequestCompletion exactly when the count is not 0.
+use Prim.Native.Nat.{ℕ}
+use mathlib.Core.List.{List}
+use mathlib.Core.Bool.{Bool, true, cond}
+use lib.Dec.{eqb, leb}
+use Rattle.wire.specs.Words.{wordAt}
+use Rattle.wire.specs.Ids.{interfaceIn, maskIn}
+use Rattle.wire.specs.Layout.{field, ended}
+use Rattle.wire.specs.declared.ids.Known.{Known}
+use Rattle.wire.specs.declared.ids.Known.the-variants.{Nothing, Is}
+use Rattle.wire.specs.declared.register_request_callback.RegisterRequestCallback.{RegisterRequestCallback}
+use Rattle.wire.specs.declared.reading.Reading.{Reading}
+use Rattle.wire.specs.declared.reading.Reading.the-variants.{Fits, Fails}
+use Rattle.wire.specs.declared.reading.Body.the-variants as body
+
+unfoldable pub registerRequestCallbackOf : List ℕ → Reading
+registerRequestCallbackOf m =
+    field Fails m 12 4
+    (cond (eqb (wordAt m 12) 0)
+    (ended Fails m 16
+    (Fits (body.RegisterRequestCallback (record { count = wordAt m 12; callback = Nothing; mask = 0 }))))
+    (field Fails m 16 4
+    (ended Fails m 20
+    (Fits (body.RegisterRequestCallback (record { count = wordAt m 12; callback = Is (interfaceIn (wordAt m 16)); mask = maskIn (wordAt m 16) }))))))
+
+-- an interface that is given is none of 0 to 3
+abbrev pub givenAllowed : Known → Bool
+givenAllowed Nothing = true
+givenAllowed (Is id) = leb 4 (id .0)
+
+abbrev pub registerRequestCallbackAllowed : RegisterRequestCallback → Bool
+registerRequestCallbackAllowed b = givenAllowed (b .callback)

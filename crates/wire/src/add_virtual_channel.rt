@@ -1,0 +1,26 @@
+// ADD_VIRTUAL_CHANNEL (000 2.2.4.1), kind 5: a header and nothing behind it.
+use crate::reading::Body;
+use crate::reading::Fault;
+use crate::reading::Reading;
+use crate::words::rest;
+ghost use mathlib.Core.Path.{_≡_};
+ghost use Rattle.wire.specs.AddVirtualChannel.{addVirtualChannelOf};
+
+pub struct AddVirtualChannel {}
+
+impl AddVirtualChannel {
+    pub const MASK: u32 = 1;
+
+    pub const INTERFACE: u32 = 1;
+
+    pub const FUNCTION: u32 = 0x100;
+}
+
+pub(crate) fn read(m: &[u8]) -> Reading
+    ensures { λ r. ⌜ r ≡ addVirtualChannelOf (now (m .entry)) ⌝ }
+{
+    if 0 < rest(m, 12) {
+        return Reading::Fails(Fault::LeftOver(12));
+    }
+    Reading::Fits(Body::AddVirtualChannel)
+}

@@ -1,0 +1,35 @@
+// CANCEL_REQUEST (000 2.2.6.1), kind 13. Its interface is the device's.
+//
+//   12  RequestId  4
+use crate::ids::RequestId;
+use crate::reading::Body;
+use crate::reading::Fault;
+use crate::reading::Reading;
+use crate::words::rest;
+use crate::words::u32_at;
+ghost use mathlib.Core.Path.{_≡_};
+ghost use Rattle.wire.specs.CancelRequest.{cancelRequestOf};
+
+pub struct CancelRequest {
+    pub request: RequestId,
+}
+
+impl CancelRequest {
+    pub const MASK: u32 = 1;
+
+    pub const FUNCTION: u32 = 0x100;
+}
+
+pub(crate) fn read(m: &[u8]) -> Reading
+    ensures { λ r. ⌜ r ≡ cancelRequestOf (now (m .entry)) ⌝ }
+{
+    if rest(m, 12) < 4 {
+        return Reading::Fails(Fault::RanOut(12));
+    }
+    if 0 < rest(m, 16) {
+        return Reading::Fails(Fault::LeftOver(16));
+    }
+    Reading::Fits(Body::CancelRequest(CancelRequest {
+        request: RequestId::of_word(u32_at(m, 12)),
+    }))
+}

@@ -1,0 +1,42 @@
+// RIM_EXCHANGE_CAPABILITY_REQUEST (000 2.2.3.1), kind 1.
+//
+//   12  CapabilityValue  4  1
+use crate::reading::Body;
+use crate::reading::Fault;
+use crate::reading::Reading;
+use crate::words::rest;
+use crate::words::u32_at;
+ghost use mathlib.Core.Path.{_≡_};
+ghost use Rattle.wire.specs.CapabilityRequest.{capabilityRequestOf, capabilityRequestAllowed};
+
+pub struct CapabilityRequest {
+    pub capability: u32,
+}
+
+impl CapabilityRequest {
+    pub const MASK: u32 = 0;
+
+    pub const INTERFACE: u32 = 0;
+
+    pub const FUNCTION: u32 = 0x100;
+}
+
+pub(crate) fn read(m: &[u8]) -> Reading
+    ensures { λ r. ⌜ r ≡ capabilityRequestOf (now (m .entry)) ⌝ }
+{
+    if rest(m, 12) < 4 {
+        return Reading::Fails(Fault::RanOut(12));
+    }
+    if 0 < rest(m, 16) {
+        return Reading::Fails(Fault::LeftOver(16));
+    }
+    Reading::Fits(Body::CapabilityRequest(CapabilityRequest {
+        capability: u32_at(m, 12),
+    }))
+}
+
+pub(crate) fn allowed(b: CapabilityRequest) -> bool
+    ensures { λ r. ⌜ r ≡ capabilityRequestAllowed b ⌝ }
+{
+    b.capability == 1
+}

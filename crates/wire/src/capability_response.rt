@@ -1,0 +1,49 @@
+// RIM_EXCHANGE_CAPABILITY_RESPONSE (000 2.2.3.2), kind 2. It has no FunctionId, so its body starts at 8.
+//
+//    8  CapabilityValue  4  1
+//   12  Result           4  top bit clear
+use crate::reading::Body;
+use crate::reading::Fault;
+use crate::reading::Reading;
+use crate::words::rest;
+use crate::words::u32_at;
+ghost use mathlib.Core.Path.{_≡_};
+ghost use Rattle.wire.specs.CapabilityResponse.{capabilityResponseOf, capabilityResponseAllowed};
+
+pub struct CapabilityResponse {
+    pub capability: u32,
+    pub result: u32,
+}
+
+impl CapabilityResponse {
+    pub const MASK: u32 = 0;
+
+    pub const INTERFACE: u32 = 0;
+}
+
+pub(crate) fn read(m: &[u8]) -> Reading
+    ensures { λ r. ⌜ r ≡ capabilityResponseOf (now (m .entry)) ⌝ }
+{
+    if rest(m, 8) < 4 {
+        return Reading::Fails(Fault::RanOut(8));
+    }
+    if rest(m, 12) < 4 {
+        return Reading::Fails(Fault::RanOut(12));
+    }
+    if 0 < rest(m, 16) {
+        return Reading::Fails(Fault::LeftOver(16));
+    }
+    Reading::Fits(Body::CapabilityResponse(CapabilityResponse {
+        capability: u32_at(m, 8),
+        result: u32_at(m, 12),
+    }))
+}
+
+pub(crate) fn allowed(b: CapabilityResponse) -> bool
+    ensures { λ r. ⌜ r ≡ capabilityResponseAllowed b ⌝ }
+{
+    if b.capability != 1 {
+        return false;
+    }
+    b.result < 0x8000_0000
+}

@@ -1,0 +1,19 @@
+// INTERNAL_IO_CONTROL (000 2.2.6.4), kind 9: the layout of IO_CONTROL under a function number of its own.
+use crate::io_control;
+use crate::reading::Reading;
+ghost use mathlib.Core.Path.{_≡_};
+ghost use Rattle.wire.specs.IoControl.{ioControlOf};
+
+pub struct InternalIoControl {}
+
+impl InternalIoControl {
+    pub const MASK: u32 = 1;
+
+    pub const FUNCTION: u32 = 0x103;
+}
+
+pub(crate) fn read(m: &[u8]) -> Reading
+    ensures { λ r. ⌜ r ≡ ioControlOf (now (m .entry)) ⌝ }
+{
+    io_control::read(m)
+}

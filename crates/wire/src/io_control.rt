@@ -1,0 +1,63 @@
+// IO_CONTROL (000 2.2.6.3), kind 8. Its interface is the device's.
+//
+//   12  IoControlCode     4
+//   16  InputBufferSize   4
+//   20  InputBuffer       InputBufferSize
+//    e  OutputBufferSize  4
+//  e+4  RequestId         4
+use crate::ids::RequestId;
+use crate::reading::Body;
+use crate::reading::Fault;
+use crate::reading::Part;
+use crate::reading::Reading;
+use crate::words::rest;
+use crate::words::u32_at;
+ghost use mathlib.Core.Path.{_≡_};
+ghost use Rattle.wire.specs.IoControl.{ioControlOf};
+
+pub struct IoControl {
+    pub code: u32,
+    pub input: Part,
+    pub output: u32,
+    pub request: RequestId,
+}
+
+impl IoControl {
+    pub const MASK: u32 = 1;
+
+    pub const FUNCTION: u32 = 0x102;
+}
+
+pub(crate) fn read(m: &[u8]) -> Reading
+    ensures { λ r. ⌜ r ≡ ioControlOf (now (m .entry)) ⌝ }
+{
+    if rest(m, 12) < 4 {
+        return Reading::Fails(Fault::RanOut(12));
+    }
+    if rest(m, 16) < 4 {
+        return Reading::Fails(Fault::RanOut(16));
+    }
+    let size = u32_at(m, 16) as usize;
+    if rest(m, 20) < size {
+        return Reading::Fails(Fault::RanOut(20));
+    }
+    let e = 20 + size;
+    if rest(m, e) < 4 {
+        return Reading::Fails(Fault::RanOut(e));
+    }
+    if rest(m, e + 4) < 4 {
+        return Reading::Fails(Fault::RanOut(e + 4));
+    }
+    if 0 < rest(m, e + 8) {
+        return Reading::Fails(Fault::LeftOver(e + 8));
+    }
+    Reading::Fits(Body::IoControl(IoControl {
+        code: u32_at(m, 12),
+        input: Part {
+            start: 20,
+            size: size,
+        },
+        output: u32_at(m, e),
+        request: RequestId::of_word(u32_at(m, e + 4)),
+    }))
+}

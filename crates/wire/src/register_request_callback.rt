@@ -1,0 +1,67 @@
+// REGISTER_REQUEST_CALLBACK (000 2.2.6.2), kind 7. Its interface is the device's.
+//
+//   12  NumRequestCompletion  4
+//   16  RequestCompletion     4  only where the count is not 0; its low 30 bits are an interface, 4 or above
+use crate::ids::InterfaceId;
+use crate::ids::Known;
+use crate::reading::Body;
+use crate::reading::Fault;
+use crate::reading::Reading;
+use crate::words::rest;
+use crate::words::u32_at;
+ghost use mathlib.Core.Path.{_≡_};
+ghost use Rattle.wire.specs.RegisterRequestCallback.{registerRequestCallbackOf, registerRequestCallbackAllowed};
+
+pub struct RegisterRequestCallback {
+    pub count: u32,
+    pub callback: Known,
+    // the top 2 bits of RequestCompletion, which are no part of the interface
+    pub mask: u32,
+}
+
+impl RegisterRequestCallback {
+    pub const MASK: u32 = 1;
+
+    pub const FUNCTION: u32 = 0x101;
+}
+
+pub(crate) fn read(m: &[u8]) -> Reading
+    ensures { λ r. ⌜ r ≡ registerRequestCallbackOf (now (m .entry)) ⌝ }
+{
+    if rest(m, 12) < 4 {
+        return Reading::Fails(Fault::RanOut(12));
+    }
+    let count = u32_at(m, 12);
+    if count == 0 {
+        if 0 < rest(m, 16) {
+            return Reading::Fails(Fault::LeftOver(16));
+        }
+        return Reading::Fits(Body::RegisterRequestCallback(RegisterRequestCallback {
+            count: count,
+            callback: Known::Nothing,
+            mask: 0,
+        }));
+    }
+    if rest(m, 16) < 4 {
+        return Reading::Fails(Fault::RanOut(16));
+    }
+    if 0 < rest(m, 20) {
+        return Reading::Fails(Fault::LeftOver(20));
+    }
+    let word = u32_at(m, 16);
+    Reading::Fits(Body::RegisterRequestCallback(RegisterRequestCallback {
+        count: count,
+        callback: Known::Is(InterfaceId::of_word(word)),
+        mask: InterfaceId::mask_of(word),
+    }))
+}
+
+pub(crate) fn allowed(b: RegisterRequestCallback) -> bool
+    ensures { λ r. ⌜ r ≡ registerRequestCallbackAllowed b ⌝ }
+{
+    let callback = b.callback;
+    match callback {
+        Known::Nothing => true,
+        Known::Is(id) => 4 <= id.number(),
+    }
+}

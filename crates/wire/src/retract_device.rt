@@ -1,0 +1,40 @@
+// RETRACT_DEVICE (000 2.2.6.9), kind 14. Its interface is the device's.
+//
+//   12  Reason  4  1 (000 2.2.8)
+use crate::reading::Body;
+use crate::reading::Fault;
+use crate::reading::Reading;
+use crate::words::rest;
+use crate::words::u32_at;
+ghost use mathlib.Core.Path.{_≡_};
+ghost use Rattle.wire.specs.RetractDevice.{retractDeviceOf, retractDeviceAllowed};
+
+pub struct RetractDevice {
+    pub reason: u32,
+}
+
+impl RetractDevice {
+    pub const MASK: u32 = 1;
+
+    pub const FUNCTION: u32 = 0x107;
+}
+
+pub(crate) fn read(m: &[u8]) -> Reading
+    ensures { λ r. ⌜ r ≡ retractDeviceOf (now (m .entry)) ⌝ }
+{
+    if rest(m, 12) < 4 {
+        return Reading::Fails(Fault::RanOut(12));
+    }
+    if 0 < rest(m, 16) {
+        return Reading::Fails(Fault::LeftOver(16));
+    }
+    Reading::Fits(Body::RetractDevice(RetractDevice {
+        reason: u32_at(m, 12),
+    }))
+}
+
+pub(crate) fn allowed(b: RetractDevice) -> bool
+    ensures { λ r. ⌜ r ≡ retractDeviceAllowed b ⌝ }
+{
+    b.reason == 1
+}

@@ -1,0 +1,103 @@
+// A counted text of ADD_DEVICE (000 2.2.4.2): a count of 16-bit units, and the units.
+//
+//   at    count  4
+//   at+4  units  2 * count
+use crate::reading::Fault;
+use crate::reading::Part;
+use crate::words::rest;
+use crate::words::u16_at;
+use crate::words::u32_at;
+ghost use mathlib.Core.Path.{_≡_};
+ghost use Rattle.wire.specs.Text.{textOf, textAllowed, textsAllowed};
+
+pub struct Text {
+    pub count: u32,
+    pub units: Part,
+    // the last unit and the one before it, 0 where the text has none
+    pub last: u32,
+    pub prior: u32,
+}
+
+// A text and the byte behind it.
+pub enum TextRead {
+    Fits(Text, usize),
+    Fails(Fault),
+}
+
+impl Text {
+    pub const MOST: u32 = 512;
+}
+
+pub(crate) fn read(m: &[u8], at: usize) -> TextRead
+    ensures { λ r. ⌜ r ≡ textOf (now (m .entry)) at ⌝ }
+{
+    if rest(m, at) < 4 {
+        return TextRead::Fails(Fault::RanOut(at));
+    }
+    let count = u32_at(m, at);
+    let start = at + 4;
+    let size = 2 * count as usize;
+    if rest(m, start) < size {
+        return TextRead::Fails(Fault::RanOut(start));
+    }
+    let end = start + size;
+    let units = Part {
+        start: start,
+        size: size,
+    };
+    if count == 0 {
+        return TextRead::Fits(
+            Text {
+                count: count,
+                units: units,
+                last: 0,
+                prior: 0,
+            },
+            end,
+        );
+    }
+    let last = u16_at(m, end - 2);
+    if count == 1 {
+        return TextRead::Fits(
+            Text {
+                count: count,
+                units: units,
+                last: last,
+                prior: 0,
+            },
+            end,
+        );
+    }
+    TextRead::Fits(
+        Text {
+            count: count,
+            units: units,
+            last: last,
+            prior: u16_at(m, end - 4),
+        },
+        end,
+    )
+}
+
+// A text that ends in unit 0, if it has a unit.
+pub(crate) fn allowed(t: Text) -> bool
+    ensures { λ r. ⌜ r ≡ textAllowed t ⌝ }
+{
+    if Text::MOST < t.count {
+        return false;
+    }
+    t.last == 0
+}
+
+// A list of texts: it ends in two units 0, if it has two.
+pub(crate) fn list_allowed(t: Text) -> bool
+    ensures { λ r. ⌜ r ≡ textsAllowed t ⌝ }
+{
+    if Text::MOST < t.count {
+        return false;
+    }
+    if t.last != 0 {
+        return false;
+    }
+    t.prior == 0
+}

@@ -1,0 +1,64 @@
+// TRANSFER_IN_REQUEST (000 2.2.6.7), kind 10. Its interface is the device's.
+//
+//   12  CbTsUrb           4
+//   16  TsUrb             CbTsUrb
+//    e  OutputBufferSize  4
+use crate::reading::Body;
+use crate::reading::Fault;
+use crate::reading::Reading;
+use crate::transfer;
+use crate::transfer::TransferRead;
+use crate::ts_urb;
+use crate::ts_urb::TsUrb;
+use crate::words::rest;
+ghost use mathlib.Core.Path.{_≡_};
+ghost use Rattle.wire.specs.TransferInRequest.{transferInRequestOf, transferInRequestAllowed};
+
+pub struct TransferInRequest {
+    pub urb: TsUrb,
+    pub size: u32,
+}
+
+impl TransferInRequest {
+    pub const MASK: u32 = 1;
+
+    pub const FUNCTION: u32 = 0x105;
+}
+
+pub(crate) fn read(m: &[u8]) -> Reading
+    ensures { λ r. ⌜ r ≡ transferInRequestOf (now (m .entry)) ⌝ }
+{
+    match transfer::read(m) {
+        TransferRead::Fails(fault) => Reading::Fails(fault),
+        TransferRead::Fits(t) => {
+            if t.last < t.end {
+                return Reading::Fails(Fault::LeftOver(t.last));
+            }
+            if 0 < rest(m, t.after) {
+                return Reading::Fails(Fault::LeftOver(t.after));
+            }
+            let urb = t.urb;
+            Reading::Fits(Body::TransferInRequest(TransferInRequest {
+                urb: urb,
+                size: t.size,
+            }))
+        }
+    }
+}
+
+pub(crate) fn allowed(b: TransferInRequest) -> bool
+    ensures { λ r. ⌜ r ≡ transferInRequestAllowed b ⌝ }
+{
+    let t = b.urb;
+    if t.noack {
+        return false;
+    }
+    let urb = t.urb;
+    if !ts_urb::allowed(urb) {
+        return false;
+    }
+    if ts_urb::only_in(urb) {
+        return b.size == 0;
+    }
+    true
+}

@@ -1,0 +1,82 @@
+// TRANSFER_OUT_REQUEST (000 2.2.6.8), kind 11, and 12 where it is accepted with NoAck. Its interface is the device's.
+//
+//   12  CbTsUrb           4
+//   16  TsUrb             CbTsUrb
+//    e  OutputBufferSize  4
+//  e+4  OutputBuffer      OutputBufferSize
+use crate::reading::Body;
+use crate::reading::Fault;
+use crate::reading::Part;
+use crate::reading::Reading;
+use crate::transfer;
+use crate::transfer::Transfer;
+use crate::transfer::TransferRead;
+use crate::ts_urb;
+use crate::ts_urb::TsUrb;
+use crate::words::rest;
+ghost use mathlib.Core.Path.{_≡_};
+ghost use Rattle.wire.specs.TransferOutRequest.{transferOutRequestOf, outgoingOf, transferOutRequestAllowed};
+
+pub struct TransferOutRequest {
+    pub urb: TsUrb,
+    pub size: u32,
+    pub output: Part,
+}
+
+impl TransferOutRequest {
+    pub const MASK: u32 = 1;
+
+    pub const FUNCTION: u32 = 0x106;
+}
+
+pub(crate) fn read(m: &[u8]) -> Reading
+    ensures { λ r. ⌜ r ≡ transferOutRequestOf (now (m .entry)) ⌝ }
+{
+    match transfer::read(m) {
+        TransferRead::Fits(t) => outgoing(m, t),
+        TransferRead::Fails(fault) => Reading::Fails(fault),
+    }
+}
+
+fn outgoing(m: &[u8], t: Transfer) -> Reading
+    ensures { λ r. ⌜ r ≡ outgoingOf (now (m .entry)) t ⌝ }
+{
+    let after = t.after;
+    let size = t.size as usize;
+    if rest(m, after) < size {
+        return Reading::Fails(Fault::RanOut(after));
+    }
+    if t.last < t.end {
+        return Reading::Fails(Fault::LeftOver(t.last));
+    }
+    let e = after + size;
+    if 0 < rest(m, e) {
+        return Reading::Fails(Fault::LeftOver(e));
+    }
+    let urb = t.urb;
+    Reading::Fits(Body::TransferOutRequest(TransferOutRequest {
+        urb: urb,
+        size: t.size,
+        output: Part {
+            start: after,
+            size: size,
+        },
+    }))
+}
+
+pub(crate) fn allowed(b: TransferOutRequest) -> bool
+    ensures { λ r. ⌜ r ≡ transferOutRequestAllowed b ⌝ }
+{
+    let t = b.urb;
+    let urb = t.urb;
+    if !ts_urb::allowed(urb) {
+        return false;
+    }
+    if ts_urb::only_in(urb) {
+        return false;
+    }
+    if t.noack {
+        return ts_urb::may_skip_ack(urb);
+    }
+    true
+}

@@ -1,0 +1,91 @@
+// What URB_COMPLETION and URB_COMPLETION_NO_DATA begin with. Of a TS_URB_RESULT only its header (000 2.2.10.1.1) is read.
+//
+//   12  RequestId         4
+//   16  CbTsUrbResult     4  at least 8
+//   20  TsUrbResult       CbTsUrbResult
+//         20  Size        2  CbTsUrbResult
+//         22  Padding     2
+//         24  UsbdStatus  4
+//         28  the rest
+//    e  HResult           4
+//  e+4  OutputBufferSize  4
+use crate::ids::RequestId;
+use crate::reading::Fault;
+use crate::reading::Part;
+use crate::words::rest;
+use crate::words::u16_at;
+use crate::words::u32_at;
+ghost use mathlib.Core.Path.{_≡_};
+ghost use Prim.Native.Nat.{_≤_};
+ghost use lib.ListN.{length};
+ghost use Rattle.wire.specs.TsUrbResult.{completionOf, completedOf};
+
+pub struct TsUrbResult {
+    pub status: u32,
+    pub rest: Part,
+}
+
+pub struct Completion {
+    pub request: RequestId,
+    pub urb: TsUrbResult,
+    pub result: u32,
+    pub size: u32,
+    // the byte behind OutputBufferSize
+    pub after: usize,
+}
+
+pub enum CompletionRead {
+    Fits(Completion),
+    Fails(Fault),
+}
+
+pub(crate) fn read(m: &[u8]) -> CompletionRead
+    ensures { λ r. ⌜ r ≡ completionOf (now (m .entry)) ⌝ }
+{
+    if rest(m, 12) < 4 {
+        return CompletionRead::Fails(Fault::RanOut(12));
+    }
+    if rest(m, 16) < 4 {
+        return CompletionRead::Fails(Fault::RanOut(16));
+    }
+    let size = u32_at(m, 16) as usize;
+    if size < 8 {
+        return CompletionRead::Fails(Fault::Disagrees(16));
+    }
+    if rest(m, 20) < size {
+        return CompletionRead::Fails(Fault::RanOut(20));
+    }
+    if u16_at(m, 20) as usize != size {
+        return CompletionRead::Fails(Fault::Disagrees(20));
+    }
+    completed(m, size)
+}
+
+// What follows a result of `size` bytes.
+fn completed(m: &[u8], size: usize) -> CompletionRead
+    requires { ⌜ 8 ≤ size ⌝ }
+    requires { ⌜ 28 ≤ length (now m) ⌝ }
+    requires { ⌜ size ≤ 4294967295 ⌝ }
+    ensures { λ r. ⌜ r ≡ completedOf (now (m .entry)) size ⌝ }
+{
+    let e = 20 + size;
+    if rest(m, e) < 4 {
+        return CompletionRead::Fails(Fault::RanOut(e));
+    }
+    if rest(m, e + 4) < 4 {
+        return CompletionRead::Fails(Fault::RanOut(e + 4));
+    }
+    CompletionRead::Fits(Completion {
+        request: RequestId::of_word(u32_at(m, 12)),
+        urb: TsUrbResult {
+            status: u32_at(m, 24),
+            rest: Part {
+                start: 28,
+                size: size - 8,
+            },
+        },
+        result: u32_at(m, e),
+        size: u32_at(m, e + 4),
+        after: e + 8,
+    })
+}

@@ -1,0 +1,71 @@
+// URB_COMPLETION (000 2.2.7.2), kind 16. Its interface is the callback's.
+//
+//   12  what ts_urb_result.rt reads
+//  e+8  OutputBuffer  OutputBufferSize, at least 1
+use crate::ids::RequestId;
+use crate::reading::Body;
+use crate::reading::Fault;
+use crate::reading::Part;
+use crate::reading::Reading;
+use crate::ts_urb_result;
+use crate::ts_urb_result::Completion;
+use crate::ts_urb_result::CompletionRead;
+use crate::ts_urb_result::TsUrbResult;
+use crate::words::rest;
+ghost use mathlib.Core.Path.{_≡_};
+ghost use Rattle.wire.specs.UrbCompletion.{urbCompletionOf, withOutputOf, urbCompletionAllowed};
+
+pub struct UrbCompletion {
+    pub request: RequestId,
+    pub urb: TsUrbResult,
+    pub result: u32,
+    pub size: u32,
+    pub output: Part,
+}
+
+impl UrbCompletion {
+    pub const MASK: u32 = 1;
+
+    pub const FUNCTION: u32 = 0x101;
+}
+
+pub(crate) fn read(m: &[u8]) -> Reading
+    ensures { λ r. ⌜ r ≡ urbCompletionOf (now (m .entry)) ⌝ }
+{
+    match ts_urb_result::read(m) {
+        CompletionRead::Fits(c) => with_output(m, c),
+        CompletionRead::Fails(fault) => Reading::Fails(fault),
+    }
+}
+
+fn with_output(m: &[u8], c: Completion) -> Reading
+    ensures { λ r. ⌜ r ≡ withOutputOf (now (m .entry)) c ⌝ }
+{
+    let after = c.after;
+    let size = c.size as usize;
+    if rest(m, after) < size {
+        return Reading::Fails(Fault::RanOut(after));
+    }
+    let e = after + size;
+    if 0 < rest(m, e) {
+        return Reading::Fails(Fault::LeftOver(e));
+    }
+    let request = c.request;
+    let urb = c.urb;
+    Reading::Fits(Body::UrbCompletion(UrbCompletion {
+        request: request,
+        urb: urb,
+        result: c.result,
+        size: c.size,
+        output: Part {
+            start: after,
+            size: size,
+        },
+    }))
+}
+
+pub(crate) fn allowed(b: UrbCompletion) -> bool
+    ensures { λ r. ⌜ r ≡ urbCompletionAllowed b ⌝ }
+{
+    b.size != 0
+}

@@ -1,0 +1,126 @@
+// TS_URB_SELECT_CONFIGURATION (000 2.2.9.2).
+//
+//   24  ConfigurationDescriptorIsValid  1
+//   25  Padding                         3
+//   28  NumInterfaces                   4  at most 32
+//   32  interfaces                      as many
+//    e  USB_CONFIGURATION_DESCRIPTOR    the rest, at least 9 bytes, only where the flag is not 0
+//         its first two bytes are 9 and 2
+use crate::reading::Fault;
+use crate::reading::Part;
+use crate::ts_urb::StructureRead;
+use crate::ts_urb::Urb;
+use crate::urb_interfaces;
+use crate::urb_interfaces::Interfaces;
+use crate::urb_interfaces::Walk;
+use crate::words::byte_at;
+use crate::words::rest;
+use crate::words::u32_at;
+ghost use mathlib.Core.Path.{_≡_};
+ghost use Prim.Native.Nat.{_+_, _≤_};
+ghost use lib.ListN.{length};
+ghost use Rattle.wire.specs.SelectConfiguration.{selectConfigurationOf, configurationOf, selectConfigurationAllowed};
+
+pub struct SelectConfiguration {
+    pub flag: u32,
+    pub count: u32,
+    pub interfaces: Part,
+    // the largest NumberOfPipes of its interfaces
+    pub pipes: u32,
+    pub descriptor: Part,
+    // the first two bytes of the descriptor, 0 where there is none
+    pub first: u32,
+    pub second: u32,
+}
+
+impl SelectConfiguration {
+    pub const FUNCTION: u32 = 0x0000;
+
+    pub const MOST_INTERFACES: u32 = 32;
+}
+
+pub(crate) fn read(u: &[u8]) -> StructureRead
+    ensures { λ r. ⌜ r ≡ selectConfigurationOf (now (u .entry)) ⌝ }
+{
+    if rest(u, 24) < 1 {
+        return StructureRead::Fails(Fault::RanOut(24));
+    }
+    if rest(u, 25) < 3 {
+        return StructureRead::Fails(Fault::RanOut(25));
+    }
+    if rest(u, 28) < 4 {
+        return StructureRead::Fails(Fault::RanOut(28));
+    }
+    let count = u32_at(u, 28);
+    match urb_interfaces::interface(u, 32, count, 0) {
+        Walk::End(end, pipes) => configuration(u, count, end, pipes),
+        Walk::Fails(fault) => StructureRead::Fails(fault),
+    }
+}
+
+// What follows an interface list that ends at `end`.
+fn configuration(u: &[u8], count: u32, end: usize, pipes: u32) -> StructureRead
+    requires { ⌜ 25 ≤ length (now u) ⌝ }
+    requires { ⌜ 32 ≤ end ⌝ }
+    ensures { λ r. ⌜ r ≡ configurationOf (now (u .entry)) count end pipes ⌝ }
+{
+    let flag = byte_at(u, 24);
+    let interfaces = Part {
+        start: 32,
+        size: end - 32,
+    };
+    if flag == 0 {
+        return StructureRead::Fits(
+            Urb::SelectConfiguration(SelectConfiguration {
+                flag: flag,
+                count: count,
+                interfaces: interfaces,
+                pipes: pipes,
+                descriptor: Part {
+                    start: end,
+                    size: 0,
+                },
+                first: 0,
+                second: 0,
+            }),
+            end,
+        );
+    }
+    let left = rest(u, end);
+    if left < 9 {
+        return StructureRead::Fails(Fault::RanOut(end));
+    }
+    StructureRead::Fits(
+        Urb::SelectConfiguration(SelectConfiguration {
+            flag: flag,
+            count: count,
+            interfaces: interfaces,
+            pipes: pipes,
+            descriptor: Part {
+                start: end,
+                size: left,
+            },
+            first: byte_at(u, end),
+            second: byte_at(u, end + 1),
+        }),
+        u.len(),
+    )
+}
+
+pub(crate) fn allowed(b: SelectConfiguration) -> bool
+    ensures { λ r. ⌜ r ≡ selectConfigurationAllowed b ⌝ }
+{
+    if SelectConfiguration::MOST_INTERFACES < b.count {
+        return false;
+    }
+    if Interfaces::MOST_PIPES < b.pipes {
+        return false;
+    }
+    if b.flag == 0 {
+        return true;
+    }
+    if b.first != 9 {
+        return false;
+    }
+    b.second == 2
+}
