@@ -31,39 +31,40 @@ kindNumber UrbCompletion = 16
 kindNumber UrbCompletionNoData = 17
 
 -- a message of a side goes to an interface, by the side and with the mask of a kind
-abbrev pub addressed : Header → ℕ → ℕ → ℕ → ℕ → Bool
-addressed h side interface by mask = eqb (h .interface .0) interface && (eqb side by && eqb (h .mask) mask)
+abbrev pub goesTo : Header → ℕ → ℕ → ℕ → ℕ → Bool
+goesTo h side interface by mask = eqb (h .interface .0) interface && (eqb side by && eqb (h .mask) mask)
 
-abbrev pub calls : Header → ℕ → ℕ → ℕ → ℕ → ℕ → Bool
-calls h side interface by mask function = addressed h side interface by mask && eqb (h .function) function
+abbrev pub callsAt : Header → ℕ → ℕ → ℕ → ℕ → ℕ → Bool
+callsAt h side interface by mask function = goesTo h side interface by mask && eqb (h .function) function
 
 -- an interface that is not known matches nothing
 abbrev pub callsKnown : Header → ℕ → Known → ℕ → ℕ → ℕ → Bool
 callsKnown h side known.Nothing by mask function = false
-callsKnown h side (known.Is id) by mask function = calls h side (id .0) by mask function
+callsKnown h side (known.Is id) by mask function = callsAt h side (id .0) by mask function
 
--- where a kind's messages go: to a default interface, with or without a function; to the device; to the callback
+-- where a kind's messages go: to a default interface, with a function or with none; to the device; to the callback
 pub data Goes : Type 0 where
   default : ℕ → ℕ → Goes
   nameless : ℕ → Goes
   device : ℕ → Goes
   callback : ℕ → Goes
 
+-- a row of 01's table: the kind, the side that sends it, its mask, and where it goes
 pub record Row : Type 0 where
   pub kind : Kind
   pub by : ℕ
   pub mask : ℕ
   pub goes : Goes
 
-abbrev pub fits : Goes → ℕ → ℕ → Header → ℕ → Known → Known → Bool
-fits (default interface function) by mask h side d c = calls h side interface by mask function
-fits (nameless interface) by mask h side d c = addressed h side interface by mask
-fits (device function) by mask h side d c = callsKnown h side d by mask function
-fits (callback function) by mask h side d c = callsKnown h side c by mask function
+abbrev pub fitsBy : Goes → ℕ → ℕ → Header → ℕ → Known → Known → Bool
+fitsBy (default interface function) by mask h side d c = callsAt h side interface by mask function
+fitsBy (nameless interface) by mask h side d c = goesTo h side interface by mask
+fitsBy (device function) by mask h side d c = callsKnown h side d by mask function
+fitsBy (callback function) by mask h side d c = callsKnown h side c by mask function
 
-abbrev pub firstFitting : List Row → Header → ℕ → Known → Known → KindFound
-firstFitting [] h side d c = Nothing
-firstFitting (row ∷ rows) h side d c = cond (fits (row .goes) (row .by) (row .mask) h side d c) (Is (row .kind)) (firstFitting rows h side d c)
+-- whether a message fits a row, on a channel that knows a device d and a callback c
+abbrev pub fits : Row → Header → ℕ → Known → Known → Bool
+fits row h side d c = fitsBy (row .goes) (row .by) (row .mask) h side d c
 
 abbrev server : ℕ
 server = 1
@@ -71,31 +72,65 @@ server = 1
 abbrev client : ℕ
 client = 2
 
--- the rows in 01's order; Mask is 1 except for kinds 1 and 2, where it is 0
+-- 01's table. Mask is 1 except for kinds 1 and 2, where it is 0
+abbrev pub capabilityRequest : Row
+capabilityRequest = record { kind = CapabilityRequest; by = server; mask = 0; goes = default 0 0x100 }
+
+abbrev pub capabilityResponse : Row
+capabilityResponse = record { kind = CapabilityResponse; by = client; mask = 0; goes = nameless 0 }
+
+abbrev pub channelCreatedByServer : Row
+channelCreatedByServer = record { kind = ChannelCreatedByServer; by = server; mask = 1; goes = default 3 0x100 }
+
+abbrev pub channelCreatedByClient : Row
+channelCreatedByClient = record { kind = ChannelCreatedByClient; by = client; mask = 1; goes = default 2 0x100 }
+
+abbrev pub addVirtualChannel : Row
+addVirtualChannel = record { kind = AddVirtualChannel; by = client; mask = 1; goes = default 1 0x100 }
+
+abbrev pub addDevice : Row
+addDevice = record { kind = AddDevice; by = client; mask = 1; goes = default 1 0x101 }
+
+abbrev pub cancelRequest : Row
+cancelRequest = record { kind = CancelRequest; by = server; mask = 1; goes = device 0x100 }
+
+abbrev pub registerRequestCallback : Row
+registerRequestCallback = record { kind = RegisterRequestCallback; by = server; mask = 1; goes = device 0x101 }
+
+abbrev pub ioControl : Row
+ioControl = record { kind = IoControl; by = server; mask = 1; goes = device 0x102 }
+
+abbrev pub internalIoControl : Row
+internalIoControl = record { kind = InternalIoControl; by = server; mask = 1; goes = device 0x103 }
+
+abbrev pub transferInRequest : Row
+transferInRequest = record { kind = TransferInRequest; by = server; mask = 1; goes = device 0x105 }
+
+abbrev pub transferOutRequest : Row
+transferOutRequest = record { kind = TransferOutRequest; by = server; mask = 1; goes = device 0x106 }
+
+abbrev pub retractDevice : Row
+retractDevice = record { kind = RetractDevice; by = server; mask = 1; goes = device 0x107 }
+
+abbrev pub ioControlCompletion : Row
+ioControlCompletion = record { kind = IoControlCompletion; by = client; mask = 1; goes = callback 0x100 }
+
+abbrev pub urbCompletion : Row
+urbCompletion = record { kind = UrbCompletion; by = client; mask = 1; goes = callback 0x101 }
+
+abbrev pub urbCompletionNoData : Row
+urbCompletionNoData = record { kind = UrbCompletionNoData; by = client; mask = 1; goes = callback 0x102 }
+
+-- its rows in its order: the first that fits is the kind
 abbrev pub completionKinds : List Row
-completionKinds =
-    record { kind = IoControlCompletion; by = client; mask = 1; goes = callback 0x100 } ∷
-    record { kind = UrbCompletion; by = client; mask = 1; goes = callback 0x101 } ∷
-    record { kind = UrbCompletionNoData; by = client; mask = 1; goes = callback 0x102 } ∷
-    []
+completionKinds = ioControlCompletion ∷ urbCompletion ∷ urbCompletionNoData ∷ []
 
 abbrev pub deviceKinds : List Row
-deviceKinds =
-    record { kind = CancelRequest; by = server; mask = 1; goes = device 0x100 } ∷
-    record { kind = RegisterRequestCallback; by = server; mask = 1; goes = device 0x101 } ∷
-    record { kind = IoControl; by = server; mask = 1; goes = device 0x102 } ∷
-    record { kind = InternalIoControl; by = server; mask = 1; goes = device 0x103 } ∷
-    record { kind = TransferInRequest; by = server; mask = 1; goes = device 0x105 } ∷
-    record { kind = TransferOutRequest; by = server; mask = 1; goes = device 0x106 } ∷
-    record { kind = RetractDevice; by = server; mask = 1; goes = device 0x107 } ∷
-    completionKinds
+deviceKinds = cancelRequest ∷ registerRequestCallback ∷ ioControl ∷ internalIoControl ∷ transferInRequest ∷ transferOutRequest ∷ retractDevice ∷ completionKinds
 
 abbrev pub kinds : List Row
-kinds =
-    record { kind = CapabilityRequest; by = server; mask = 0; goes = default 0 0x100 } ∷
-    record { kind = CapabilityResponse; by = client; mask = 0; goes = nameless 0 } ∷
-    record { kind = ChannelCreatedByServer; by = server; mask = 1; goes = default 3 0x100 } ∷
-    record { kind = ChannelCreatedByClient; by = client; mask = 1; goes = default 2 0x100 } ∷
-    record { kind = AddVirtualChannel; by = client; mask = 1; goes = default 1 0x100 } ∷
-    record { kind = AddDevice; by = client; mask = 1; goes = default 1 0x101 } ∷
-    deviceKinds
+kinds = capabilityRequest ∷ capabilityResponse ∷ channelCreatedByServer ∷ channelCreatedByClient ∷ addVirtualChannel ∷ addDevice ∷ deviceKinds
+
+abbrev pub firstFitting : List Row → Header → ℕ → Known → Known → KindFound
+firstFitting [] h side d c = Nothing
+firstFitting (row ∷ rows) h side d c = cond (fits row h side d c) (Is (row .kind)) (firstFitting rows h side d c)

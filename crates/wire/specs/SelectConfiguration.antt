@@ -8,19 +8,28 @@ use Rattle.wire.specs.Words.{byteAt, wordAt}
 use Rattle.wire.specs.Layout.{left, field}
 use Rattle.wire.specs.Interfaces.{interfacesOf}
 use Rattle.wire.specs.declared.urb_select_configuration.SelectConfiguration.{SelectConfiguration}
+use Rattle.wire.specs.declared.urb_select_configuration.DescriptorRead.{DescriptorRead}
+use Rattle.wire.specs.declared.urb_select_configuration.DescriptorRead.the-variants as descriptor
 use Rattle.wire.specs.declared.urb_interfaces.Walk.{Walk}
 use Rattle.wire.specs.declared.urb_interfaces.Walk.the-variants as walk
 use Rattle.wire.specs.declared.ts_urb.Urb.the-variants as urb
 use Rattle.wire.specs.declared.ts_urb.StructureRead.{StructureRead}
 use Rattle.wire.specs.declared.ts_urb.StructureRead.the-variants.{Fits, Fails}
 
--- behind the interfaces nothing if the flag is 0, else a descriptor of at least 9 bytes
+-- behind the interfaces nothing if the flag is 0, else a descriptor of at least 9 bytes, which takes all that is left
+unfoldable pub descriptorOf : List ℕ → ℕ → ℕ → DescriptorRead
+descriptorOf u flag at =
+    cond (eqb flag 0)
+    (descriptor.Fits (record { part = record { start = at; size = 0 }; first = 0; second = 0 }) at)
+    (field descriptor.Fails u at 9
+    (descriptor.Fits (record { part = record { start = at; size = left u at }; first = byteAt u at; second = byteAt u (at + 1) }) (length u)))
+
+abbrev pub configurationWith : List ℕ → ℕ → ℕ → ℕ → DescriptorRead → StructureRead
+configurationWith u count end pipes (descriptor.Fits d last) = Fits (urb.SelectConfiguration (record { flag = byteAt u 24; count = count; interfaces = record { start = 32; size = end - 32 }; pipes = pipes; descriptor = d })) last
+configurationWith u count end pipes (descriptor.Fails fault) = Fails fault
+
 unfoldable pub configurationOf : List ℕ → ℕ → ℕ → ℕ → StructureRead
-configurationOf u count end pipes =
-    cond (eqb (byteAt u 24) 0)
-    (Fits (urb.SelectConfiguration (record { flag = byteAt u 24; count = count; interfaces = record { start = 32; size = end - 32 }; pipes = pipes; descriptor = record { start = end; size = 0 }; first = 0; second = 0 })) end)
-    (field Fails u end 9
-    (Fits (urb.SelectConfiguration (record { flag = byteAt u 24; count = count; interfaces = record { start = 32; size = end - 32 }; pipes = pipes; descriptor = record { start = end; size = left u end }; first = byteAt u end; second = byteAt u (end + 1) })) (length u)))
+configurationOf u count end pipes = configurationWith u count end pipes (descriptorOf u (byteAt u 24) end)
 
 abbrev pub configurationFrom : List ℕ → Walk → StructureRead
 configurationFrom u (walk.End end pipes) = configurationOf u (wordAt u 28) end pipes
@@ -35,4 +44,4 @@ selectConfigurationOf u =
 
 -- at most 32 interfaces, of at most 30 pipes each; the descriptor's first two bytes are 9 and 2
 abbrev pub selectConfigurationAllowed : SelectConfiguration → Bool
-selectConfigurationAllowed b = leb (b .count) 32 && (leb (b .pipes) 30 && (eqb (b .flag) 0 || (eqb (b .first) 9 && eqb (b .second) 2)))
+selectConfigurationAllowed b = leb (b .count) 32 && (leb (b .pipes) 30 && (eqb (b .flag) 0 || (eqb (b .descriptor .first) 9 && eqb (b .descriptor .second) 2)))

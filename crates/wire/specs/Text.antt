@@ -2,7 +2,7 @@
 use Prim.Native.Nat.{ℕ, _+_, _-_, _*_}
 use mathlib.Core.List.{List}
 use mathlib.Core.Bool.{Bool, cond, _&&_}
-use lib.Dec.{eqb, leb}
+use lib.Dec.{eqb, leb, ltb}
 use Rattle.wire.specs.Words.{halfAt, wordAt}
 use Rattle.wire.specs.Layout.{field}
 use Rattle.wire.specs.declared.text.Text.{Text}
@@ -14,7 +14,7 @@ abbrev pub lastUnit : List ℕ → ℕ → ℕ → ℕ
 lastUnit m n end = cond (eqb n 0) 0 (halfAt m (end - 2))
 
 abbrev pub priorUnit : List ℕ → ℕ → ℕ → ℕ
-priorUnit m n end = cond (eqb n 0) 0 (cond (eqb n 1) 0 (halfAt m (end - 4)))
+priorUnit m n end = cond (ltb n 2) 0 (halfAt m (end - 4))
 
 -- n units from a place on
 unfoldable pub unitsOf : List ℕ → ℕ → ℕ → TextRead

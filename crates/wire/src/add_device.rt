@@ -10,7 +10,10 @@
 use crate::device_capabilities;
 use crate::device_capabilities::CapabilitiesRead;
 use crate::device_capabilities::DeviceCapabilities;
+use crate::header::Header;
 use crate::ids::InterfaceId;
+use crate::kind::Side;
+use crate::kind::calls;
 use crate::reading::Body;
 use crate::reading::Fault;
 use crate::reading::Reading;
@@ -22,6 +25,8 @@ use crate::words::u32_at;
 ghost use mathlib.Core.Path.{_≡_};
 ghost use Prim.Native.Nat.{_≤_};
 ghost use lib.ListN.{length};
+ghost use Rattle.wire.specs.declared.ids.Known.the-variants.{Nothing};
+ghost use Rattle.wire.specs.Kinds.{fits, addDevice};
 ghost use Rattle.wire.specs.AddDevice.{addDeviceOf, pairOf, deviceOf, textPairAllowed, addDeviceAllowed};
 
 // A text and the list or text behind it: the instance id with the hardware ids, or the compatible ids with the container id.
@@ -54,6 +59,19 @@ impl AddDevice {
 pub enum PairRead {
     Fits(TextPair, usize),
     Fails(Fault),
+}
+
+pub(crate) fn fits(h: Header, side: u8) -> bool
+    ensures { λ r. ⌜ r ≡ fits addDevice h side Nothing Nothing ⌝ }
+{
+    calls(
+        h,
+        side,
+        AddDevice::INTERFACE,
+        Side::CLIENT,
+        AddDevice::MASK,
+        AddDevice::FUNCTION,
+    )
 }
 
 pub(crate) fn read(m: &[u8]) -> Reading

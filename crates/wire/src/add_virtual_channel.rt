@@ -1,9 +1,14 @@
 // ADD_VIRTUAL_CHANNEL (000 2.2.4.1), kind 5: a header and nothing behind it.
+use crate::header::Header;
+use crate::kind::Side;
+use crate::kind::calls;
 use crate::reading::Body;
 use crate::reading::Fault;
 use crate::reading::Reading;
 use crate::words::rest;
 ghost use mathlib.Core.Path.{_≡_};
+ghost use Rattle.wire.specs.declared.ids.Known.the-variants.{Nothing};
+ghost use Rattle.wire.specs.Kinds.{fits, addVirtualChannel};
 ghost use Rattle.wire.specs.AddVirtualChannel.{addVirtualChannelOf};
 
 pub struct AddVirtualChannel {}
@@ -14,6 +19,19 @@ impl AddVirtualChannel {
     pub const INTERFACE: u32 = 1;
 
     pub const FUNCTION: u32 = 0x100;
+}
+
+pub(crate) fn fits(h: Header, side: u8) -> bool
+    ensures { λ r. ⌜ r ≡ fits addVirtualChannel h side Nothing Nothing ⌝ }
+{
+    calls(
+        h,
+        side,
+        AddVirtualChannel::INTERFACE,
+        Side::CLIENT,
+        AddVirtualChannel::MASK,
+        AddVirtualChannel::FUNCTION,
+    )
 }
 
 pub(crate) fn read(m: &[u8]) -> Reading

@@ -1,13 +1,19 @@
 // CANCEL_REQUEST (000 2.2.6.1), kind 13. Its interface is the device's.
 //
 //   12  RequestId  4
+use crate::header::Header;
+use crate::ids::Known;
 use crate::ids::RequestId;
+use crate::kind::Side;
+use crate::kind::calls_known;
 use crate::reading::Body;
 use crate::reading::Fault;
 use crate::reading::Reading;
 use crate::words::rest;
 use crate::words::u32_at;
 ghost use mathlib.Core.Path.{_≡_};
+ghost use Rattle.wire.specs.declared.ids.Known.the-variants.{Nothing};
+ghost use Rattle.wire.specs.Kinds.{fits, cancelRequest};
 ghost use Rattle.wire.specs.CancelRequest.{cancelRequestOf};
 
 pub struct CancelRequest {
@@ -18,6 +24,19 @@ impl CancelRequest {
     pub const MASK: u32 = 1;
 
     pub const FUNCTION: u32 = 0x100;
+}
+
+pub(crate) fn fits(h: Header, side: u8, device: Known) -> bool
+    ensures { λ r. ⌜ r ≡ fits cancelRequest h side device Nothing ⌝ }
+{
+    calls_known(
+        h,
+        side,
+        device,
+        Side::SERVER,
+        CancelRequest::MASK,
+        CancelRequest::FUNCTION,
+    )
 }
 
 pub(crate) fn read(m: &[u8]) -> Reading

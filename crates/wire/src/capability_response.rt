@@ -2,12 +2,17 @@
 //
 //    8  CapabilityValue  4  1
 //   12  Result           4  top bit clear
+use crate::header::Header;
+use crate::kind::Side;
+use crate::kind::goes_to;
 use crate::reading::Body;
 use crate::reading::Fault;
 use crate::reading::Reading;
 use crate::words::rest;
 use crate::words::u32_at;
 ghost use mathlib.Core.Path.{_≡_};
+ghost use Rattle.wire.specs.declared.ids.Known.the-variants.{Nothing};
+ghost use Rattle.wire.specs.Kinds.{fits, capabilityResponse};
 ghost use Rattle.wire.specs.CapabilityResponse.{capabilityResponseOf, capabilityResponseAllowed};
 
 pub struct CapabilityResponse {
@@ -19,6 +24,18 @@ impl CapabilityResponse {
     pub const MASK: u32 = 0;
 
     pub const INTERFACE: u32 = 0;
+}
+
+pub(crate) fn fits(h: Header, side: u8) -> bool
+    ensures { λ r. ⌜ r ≡ fits capabilityResponse h side Nothing Nothing ⌝ }
+{
+    goes_to(
+        h,
+        side,
+        CapabilityResponse::INTERFACE,
+        Side::CLIENT,
+        CapabilityResponse::MASK,
+    )
 }
 
 pub(crate) fn read(m: &[u8]) -> Reading

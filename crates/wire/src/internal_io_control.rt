@@ -1,7 +1,13 @@
 // INTERNAL_IO_CONTROL (000 2.2.6.4), kind 9: the layout of IO_CONTROL under a function number of its own.
+use crate::header::Header;
+use crate::ids::Known;
 use crate::io_control;
+use crate::kind::Side;
+use crate::kind::calls_known;
 use crate::reading::Reading;
 ghost use mathlib.Core.Path.{_≡_};
+ghost use Rattle.wire.specs.declared.ids.Known.the-variants.{Nothing};
+ghost use Rattle.wire.specs.Kinds.{fits, internalIoControl};
 ghost use Rattle.wire.specs.IoControl.{ioControlOf};
 
 pub struct InternalIoControl {}
@@ -10,6 +16,19 @@ impl InternalIoControl {
     pub const MASK: u32 = 1;
 
     pub const FUNCTION: u32 = 0x103;
+}
+
+pub(crate) fn fits(h: Header, side: u8, device: Known) -> bool
+    ensures { λ r. ⌜ r ≡ fits internalIoControl h side device Nothing ⌝ }
+{
+    calls_known(
+        h,
+        side,
+        device,
+        Side::SERVER,
+        InternalIoControl::MASK,
+        InternalIoControl::FUNCTION,
+    )
 }
 
 pub(crate) fn read(m: &[u8]) -> Reading

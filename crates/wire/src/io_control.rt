@@ -5,7 +5,11 @@
 //   20  InputBuffer       InputBufferSize
 //    e  OutputBufferSize  4
 //  e+4  RequestId         4
+use crate::header::Header;
+use crate::ids::Known;
 use crate::ids::RequestId;
+use crate::kind::Side;
+use crate::kind::calls_known;
 use crate::reading::Body;
 use crate::reading::Fault;
 use crate::reading::Part;
@@ -13,6 +17,8 @@ use crate::reading::Reading;
 use crate::words::rest;
 use crate::words::u32_at;
 ghost use mathlib.Core.Path.{_≡_};
+ghost use Rattle.wire.specs.declared.ids.Known.the-variants.{Nothing};
+ghost use Rattle.wire.specs.Kinds.{fits, ioControl};
 ghost use Rattle.wire.specs.IoControl.{ioControlOf};
 
 pub struct IoControl {
@@ -26,6 +32,19 @@ impl IoControl {
     pub const MASK: u32 = 1;
 
     pub const FUNCTION: u32 = 0x102;
+}
+
+pub(crate) fn fits(h: Header, side: u8, device: Known) -> bool
+    ensures { λ r. ⌜ r ≡ fits ioControl h side device Nothing ⌝ }
+{
+    calls_known(
+        h,
+        side,
+        device,
+        Side::SERVER,
+        IoControl::MASK,
+        IoControl::FUNCTION,
+    )
 }
 
 pub(crate) fn read(m: &[u8]) -> Reading

@@ -5,7 +5,11 @@
 //   20  Information       4
 //   24  OutputBufferSize  4
 //   28  OutputBuffer      OutputBufferSize
+use crate::header::Header;
+use crate::ids::Known;
 use crate::ids::RequestId;
+use crate::kind::Side;
+use crate::kind::calls_known;
 use crate::reading::Body;
 use crate::reading::Fault;
 use crate::reading::Part;
@@ -13,6 +17,8 @@ use crate::reading::Reading;
 use crate::words::rest;
 use crate::words::u32_at;
 ghost use mathlib.Core.Path.{_≡_};
+ghost use Rattle.wire.specs.declared.ids.Known.the-variants.{Nothing};
+ghost use Rattle.wire.specs.Kinds.{fits, ioControlCompletion};
 ghost use Rattle.wire.specs.IoControlCompletion.{ioControlCompletionOf};
 
 pub struct IoControlCompletion {
@@ -27,6 +33,19 @@ impl IoControlCompletion {
     pub const MASK: u32 = 1;
 
     pub const FUNCTION: u32 = 0x100;
+}
+
+pub(crate) fn fits(h: Header, side: u8, callback: Known) -> bool
+    ensures { λ r. ⌜ r ≡ fits ioControlCompletion h side Nothing callback ⌝ }
+{
+    calls_known(
+        h,
+        side,
+        callback,
+        Side::CLIENT,
+        IoControlCompletion::MASK,
+        IoControlCompletion::FUNCTION,
+    )
 }
 
 pub(crate) fn read(m: &[u8]) -> Reading

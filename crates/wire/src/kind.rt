@@ -1,23 +1,23 @@
 // The kind of a message, by 01's table "Header and kinds": the first row that fits.
-use crate::add_device::AddDevice;
-use crate::add_virtual_channel::AddVirtualChannel;
-use crate::cancel_request::CancelRequest;
-use crate::capability_request::CapabilityRequest;
-use crate::capability_response::CapabilityResponse;
-use crate::channel_created::ChannelCreated;
+use crate::add_device;
+use crate::add_virtual_channel;
+use crate::cancel_request;
+use crate::capability_request;
+use crate::capability_response;
+use crate::channel_created;
 use crate::header::Header;
 use crate::ids::Known;
-use crate::internal_io_control::InternalIoControl;
-use crate::io_control::IoControl;
-use crate::io_control_completion::IoControlCompletion;
-use crate::register_request_callback::RegisterRequestCallback;
-use crate::retract_device::RetractDevice;
-use crate::transfer_in_request::TransferInRequest;
-use crate::transfer_out_request::TransferOutRequest;
-use crate::urb_completion::UrbCompletion;
-use crate::urb_completion_no_data::UrbCompletionNoData;
+use crate::internal_io_control;
+use crate::io_control;
+use crate::io_control_completion;
+use crate::register_request_callback;
+use crate::retract_device;
+use crate::transfer_in_request;
+use crate::transfer_out_request;
+use crate::urb_completion;
+use crate::urb_completion_no_data;
 ghost use mathlib.Core.Path.{_≡_};
-ghost use Rattle.wire.specs.Kinds.{addressed, calls, callsKnown, firstFitting, kinds, deviceKinds, completionKinds, kindNumber};
+ghost use Rattle.wire.specs.Kinds.{goesTo, callsAt, callsKnown, firstFitting, kinds, deviceKinds, completionKinds, kindNumber};
 
 pub enum Kind {
     CapabilityRequest,
@@ -51,9 +51,9 @@ impl Side {
     pub const CLIENT: u8 = 2;
 }
 
-// Whether a message of a side is addressed to an interface, with a mask.
-fn to(h: Header, side: u8, interface: u32, by: u8, mask: u32) -> bool
-    ensures { λ r. ⌜ r ≡ addressed h side interface by mask ⌝ }
+// Whether a message of a side goes to an interface, by the side and with the mask of a kind.
+pub(crate) fn goes_to(h: Header, side: u8, interface: u32, by: u8, mask: u32) -> bool
+    ensures { λ r. ⌜ r ≡ goesTo h side interface by mask ⌝ }
 {
     if h.interface.number() != interface {
         return false;
@@ -65,22 +65,29 @@ fn to(h: Header, side: u8, interface: u32, by: u8, mask: u32) -> bool
 }
 
 // Whether it calls a function there.
-fn calls_at(h: Header, side: u8, interface: u32, by: u8, mask: u32, function: u32) -> bool
-    ensures { λ r. ⌜ r ≡ calls h side interface by mask function ⌝ }
+pub(crate) fn calls(h: Header, side: u8, interface: u32, by: u8, mask: u32, function: u32) -> bool
+    ensures { λ r. ⌜ r ≡ callsAt h side interface by mask function ⌝ }
 {
-    if !to(h, side, interface, by, mask) {
+    if !goes_to(h, side, interface, by, mask) {
         return false;
     }
     h.function == function
 }
 
 // The same where the interface is one that the channel has learnt, or has not.
-fn calls_known(h: Header, side: u8, known: Known, by: u8, mask: u32, function: u32) -> bool
+pub(crate) fn calls_known(
+    h: Header,
+    side: u8,
+    known: Known,
+    by: u8,
+    mask: u32,
+    function: u32,
+) -> bool
     ensures { λ r. ⌜ r ≡ callsKnown h side known by mask function ⌝ }
 {
     match known {
         Known::Nothing => false,
-        Known::Is(id) => calls_at(h, side, id.number(), by, mask, function),
+        Known::Is(id) => calls(h, side, id.number(), by, mask, function),
     }
 }
 
@@ -88,140 +95,50 @@ fn calls_known(h: Header, side: u8, known: Known, by: u8, mask: u32, function: u
 pub fn kind_of(h: Header, side: u8, device: Known, callback: Known) -> KindFound
     ensures { λ r. ⌜ r ≡ firstFitting kinds h side device callback ⌝ }
 {
-    if calls_at(
-        h,
-        side,
-        CapabilityRequest::INTERFACE,
-        Side::SERVER,
-        CapabilityRequest::MASK,
-        CapabilityRequest::FUNCTION,
-    ) {
+    if capability_request::fits(h, side) {
         return KindFound::Is(Kind::CapabilityRequest);
     }
-    if to(
-        h,
-        side,
-        CapabilityResponse::INTERFACE,
-        Side::CLIENT,
-        CapabilityResponse::MASK,
-    ) {
+    if capability_response::fits(h, side) {
         return KindFound::Is(Kind::CapabilityResponse);
     }
-    if calls_at(
-        h,
-        side,
-        ChannelCreated::INTERFACE_BY_SERVER,
-        Side::SERVER,
-        ChannelCreated::MASK,
-        ChannelCreated::FUNCTION,
-    ) {
+    if channel_created::fits_by_server(h, side) {
         return KindFound::Is(Kind::ChannelCreatedByServer);
     }
-    if calls_at(
-        h,
-        side,
-        ChannelCreated::INTERFACE_BY_CLIENT,
-        Side::CLIENT,
-        ChannelCreated::MASK,
-        ChannelCreated::FUNCTION,
-    ) {
+    if channel_created::fits_by_client(h, side) {
         return KindFound::Is(Kind::ChannelCreatedByClient);
     }
-    if calls_at(
-        h,
-        side,
-        AddVirtualChannel::INTERFACE,
-        Side::CLIENT,
-        AddVirtualChannel::MASK,
-        AddVirtualChannel::FUNCTION,
-    ) {
+    if add_virtual_channel::fits(h, side) {
         return KindFound::Is(Kind::AddVirtualChannel);
     }
-    if calls_at(
-        h,
-        side,
-        AddDevice::INTERFACE,
-        Side::CLIENT,
-        AddDevice::MASK,
-        AddDevice::FUNCTION,
-    ) {
+    if add_device::fits(h, side) {
         return KindFound::Is(Kind::AddDevice);
     }
     device_kind(h, side, device, callback)
 }
 
-// The rows of the table from 13 on: what the server asks of the device.
+// The rows from 13 on: what the server asks of the device.
 fn device_kind(h: Header, side: u8, device: Known, callback: Known) -> KindFound
     ensures { λ r. ⌜ r ≡ firstFitting deviceKinds h side device callback ⌝ }
 {
-    if calls_known(
-        h,
-        side,
-        device,
-        Side::SERVER,
-        CancelRequest::MASK,
-        CancelRequest::FUNCTION,
-    ) {
+    if cancel_request::fits(h, side, device) {
         return KindFound::Is(Kind::CancelRequest);
     }
-    if calls_known(
-        h,
-        side,
-        device,
-        Side::SERVER,
-        RegisterRequestCallback::MASK,
-        RegisterRequestCallback::FUNCTION,
-    ) {
+    if register_request_callback::fits(h, side, device) {
         return KindFound::Is(Kind::RegisterRequestCallback);
     }
-    if calls_known(
-        h,
-        side,
-        device,
-        Side::SERVER,
-        IoControl::MASK,
-        IoControl::FUNCTION,
-    ) {
+    if io_control::fits(h, side, device) {
         return KindFound::Is(Kind::IoControl);
     }
-    if calls_known(
-        h,
-        side,
-        device,
-        Side::SERVER,
-        InternalIoControl::MASK,
-        InternalIoControl::FUNCTION,
-    ) {
+    if internal_io_control::fits(h, side, device) {
         return KindFound::Is(Kind::InternalIoControl);
     }
-    if calls_known(
-        h,
-        side,
-        device,
-        Side::SERVER,
-        TransferInRequest::MASK,
-        TransferInRequest::FUNCTION,
-    ) {
+    if transfer_in_request::fits(h, side, device) {
         return KindFound::Is(Kind::TransferInRequest);
     }
-    if calls_known(
-        h,
-        side,
-        device,
-        Side::SERVER,
-        TransferOutRequest::MASK,
-        TransferOutRequest::FUNCTION,
-    ) {
+    if transfer_out_request::fits(h, side, device) {
         return KindFound::Is(Kind::TransferOutRequest);
     }
-    if calls_known(
-        h,
-        side,
-        device,
-        Side::SERVER,
-        RetractDevice::MASK,
-        RetractDevice::FUNCTION,
-    ) {
+    if retract_device::fits(h, side, device) {
         return KindFound::Is(Kind::RetractDevice);
     }
     completion_kind(h, side, callback)
@@ -231,34 +148,13 @@ fn device_kind(h: Header, side: u8, device: Known, callback: Known) -> KindFound
 fn completion_kind(h: Header, side: u8, callback: Known) -> KindFound
     ensures { λ r. ⌜ r ≡ firstFitting completionKinds h side callback callback ⌝ }
 {
-    if calls_known(
-        h,
-        side,
-        callback,
-        Side::CLIENT,
-        IoControlCompletion::MASK,
-        IoControlCompletion::FUNCTION,
-    ) {
+    if io_control_completion::fits(h, side, callback) {
         return KindFound::Is(Kind::IoControlCompletion);
     }
-    if calls_known(
-        h,
-        side,
-        callback,
-        Side::CLIENT,
-        UrbCompletion::MASK,
-        UrbCompletion::FUNCTION,
-    ) {
+    if urb_completion::fits(h, side, callback) {
         return KindFound::Is(Kind::UrbCompletion);
     }
-    if calls_known(
-        h,
-        side,
-        callback,
-        Side::CLIENT,
-        UrbCompletionNoData::MASK,
-        UrbCompletionNoData::FUNCTION,
-    ) {
+    if urb_completion_no_data::fits(h, side, callback) {
         return KindFound::Is(Kind::UrbCompletionNoData);
     }
     KindFound::Nothing

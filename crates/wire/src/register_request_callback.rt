@@ -2,14 +2,19 @@
 //
 //   12  NumRequestCompletion  4
 //   16  RequestCompletion     4  only where the count is not 0; its low 30 bits are an interface, 4 or above
+use crate::header::Header;
 use crate::ids::InterfaceId;
 use crate::ids::Known;
+use crate::kind::Side;
+use crate::kind::calls_known;
 use crate::reading::Body;
 use crate::reading::Fault;
 use crate::reading::Reading;
 use crate::words::rest;
 use crate::words::u32_at;
 ghost use mathlib.Core.Path.{_≡_};
+ghost use Rattle.wire.specs.declared.ids.Known.the-variants.{Nothing};
+ghost use Rattle.wire.specs.Kinds.{fits, registerRequestCallback};
 ghost use Rattle.wire.specs.RegisterRequestCallback.{registerRequestCallbackOf, registerRequestCallbackAllowed};
 
 pub struct RegisterRequestCallback {
@@ -23,6 +28,19 @@ impl RegisterRequestCallback {
     pub const MASK: u32 = 1;
 
     pub const FUNCTION: u32 = 0x101;
+}
+
+pub(crate) fn fits(h: Header, side: u8, device: Known) -> bool
+    ensures { λ r. ⌜ r ≡ fits registerRequestCallback h side device Nothing ⌝ }
+{
+    calls_known(
+        h,
+        side,
+        device,
+        Side::SERVER,
+        RegisterRequestCallback::MASK,
+        RegisterRequestCallback::FUNCTION,
+    )
 }
 
 pub(crate) fn read(m: &[u8]) -> Reading

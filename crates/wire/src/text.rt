@@ -8,7 +8,9 @@ use crate::words::rest;
 use crate::words::u16_at;
 use crate::words::u32_at;
 ghost use mathlib.Core.Path.{_≡_};
-ghost use Rattle.wire.specs.Text.{textOf, textAllowed, textsAllowed};
+ghost use Prim.Native.Nat.{_*_, _≤_};
+ghost use lib.ListN.{length};
+ghost use Rattle.wire.specs.Text.{textOf, lastUnit, priorUnit, textAllowed, textsAllowed};
 
 pub struct Text {
     pub count: u32,
@@ -41,42 +43,40 @@ pub(crate) fn read(m: &[u8], at: usize) -> TextRead
         return TextRead::Fails(Fault::RanOut(start));
     }
     let end = start + size;
-    let units = Part {
-        start: start,
-        size: size,
-    };
-    if count == 0 {
-        return TextRead::Fits(
-            Text {
-                count: count,
-                units: units,
-                last: 0,
-                prior: 0,
-            },
-            end,
-        );
-    }
-    let last = u16_at(m, end - 2);
-    if count == 1 {
-        return TextRead::Fits(
-            Text {
-                count: count,
-                units: units,
-                last: last,
-                prior: 0,
-            },
-            end,
-        );
-    }
     TextRead::Fits(
         Text {
             count: count,
-            units: units,
-            last: last,
-            prior: u16_at(m, end - 4),
+            units: Part {
+                start: start,
+                size: size,
+            },
+            last: last_unit(m, count, end),
+            prior: prior_unit(m, count, end),
         },
         end,
     )
+}
+
+fn last_unit(m: &[u8], count: u32, end: usize) -> u32
+    requires { ⌜ 2 * count ≤ end ⌝ }
+    requires { ⌜ end ≤ length (now m) ⌝ }
+    ensures { λ r. ⌜ r ≡ lastUnit (now (m .entry)) count end ⌝ }
+{
+    if count == 0 {
+        return 0;
+    }
+    u16_at(m, end - 2)
+}
+
+fn prior_unit(m: &[u8], count: u32, end: usize) -> u32
+    requires { ⌜ 2 * count ≤ end ⌝ }
+    requires { ⌜ end ≤ length (now m) ⌝ }
+    ensures { λ r. ⌜ r ≡ priorUnit (now (m .entry)) count end ⌝ }
+{
+    if count < 2 {
+        return 0;
+    }
+    u16_at(m, end - 4)
 }
 
 // A text that ends in unit 0, if it has a unit.

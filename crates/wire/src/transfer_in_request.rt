@@ -3,6 +3,10 @@
 //   12  CbTsUrb           4
 //   16  TsUrb             CbTsUrb
 //    e  OutputBufferSize  4
+use crate::header::Header;
+use crate::ids::Known;
+use crate::kind::Side;
+use crate::kind::calls_known;
 use crate::reading::Body;
 use crate::reading::Fault;
 use crate::reading::Reading;
@@ -12,6 +16,8 @@ use crate::ts_urb;
 use crate::ts_urb::TsUrb;
 use crate::words::rest;
 ghost use mathlib.Core.Path.{_≡_};
+ghost use Rattle.wire.specs.declared.ids.Known.the-variants.{Nothing};
+ghost use Rattle.wire.specs.Kinds.{fits, transferInRequest};
 ghost use Rattle.wire.specs.TransferInRequest.{transferInRequestOf, transferInRequestAllowed};
 
 pub struct TransferInRequest {
@@ -23,6 +29,19 @@ impl TransferInRequest {
     pub const MASK: u32 = 1;
 
     pub const FUNCTION: u32 = 0x105;
+}
+
+pub(crate) fn fits(h: Header, side: u8, device: Known) -> bool
+    ensures { λ r. ⌜ r ≡ fits transferInRequest h side device Nothing ⌝ }
+{
+    calls_known(
+        h,
+        side,
+        device,
+        Side::SERVER,
+        TransferInRequest::MASK,
+        TransferInRequest::FUNCTION,
+    )
 }
 
 pub(crate) fn read(m: &[u8]) -> Reading

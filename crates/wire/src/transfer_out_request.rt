@@ -4,6 +4,10 @@
 //   16  TsUrb             CbTsUrb
 //    e  OutputBufferSize  4
 //  e+4  OutputBuffer      OutputBufferSize
+use crate::header::Header;
+use crate::ids::Known;
+use crate::kind::Side;
+use crate::kind::calls_known;
 use crate::reading::Body;
 use crate::reading::Fault;
 use crate::reading::Part;
@@ -15,6 +19,8 @@ use crate::ts_urb;
 use crate::ts_urb::TsUrb;
 use crate::words::rest;
 ghost use mathlib.Core.Path.{_≡_};
+ghost use Rattle.wire.specs.declared.ids.Known.the-variants.{Nothing};
+ghost use Rattle.wire.specs.Kinds.{fits, transferOutRequest};
 ghost use Rattle.wire.specs.TransferOutRequest.{transferOutRequestOf, outgoingOf, transferOutRequestAllowed};
 
 pub struct TransferOutRequest {
@@ -27,6 +33,19 @@ impl TransferOutRequest {
     pub const MASK: u32 = 1;
 
     pub const FUNCTION: u32 = 0x106;
+}
+
+pub(crate) fn fits(h: Header, side: u8, device: Known) -> bool
+    ensures { λ r. ⌜ r ≡ fits transferOutRequest h side device Nothing ⌝ }
+{
+    calls_known(
+        h,
+        side,
+        device,
+        Side::SERVER,
+        TransferOutRequest::MASK,
+        TransferOutRequest::FUNCTION,
+    )
 }
 
 pub(crate) fn read(m: &[u8]) -> Reading

@@ -2,7 +2,11 @@
 //
 //   12  what ts_urb_result.rt reads
 //  e+8  OutputBuffer  OutputBufferSize, at least 1
+use crate::header::Header;
+use crate::ids::Known;
 use crate::ids::RequestId;
+use crate::kind::Side;
+use crate::kind::calls_known;
 use crate::reading::Body;
 use crate::reading::Fault;
 use crate::reading::Part;
@@ -13,6 +17,8 @@ use crate::ts_urb_result::CompletionRead;
 use crate::ts_urb_result::TsUrbResult;
 use crate::words::rest;
 ghost use mathlib.Core.Path.{_≡_};
+ghost use Rattle.wire.specs.declared.ids.Known.the-variants.{Nothing};
+ghost use Rattle.wire.specs.Kinds.{fits, urbCompletion};
 ghost use Rattle.wire.specs.UrbCompletion.{urbCompletionOf, withOutputOf, urbCompletionAllowed};
 
 pub struct UrbCompletion {
@@ -27,6 +33,19 @@ impl UrbCompletion {
     pub const MASK: u32 = 1;
 
     pub const FUNCTION: u32 = 0x101;
+}
+
+pub(crate) fn fits(h: Header, side: u8, callback: Known) -> bool
+    ensures { λ r. ⌜ r ≡ fits urbCompletion h side Nothing callback ⌝ }
+{
+    calls_known(
+        h,
+        side,
+        callback,
+        Side::CLIENT,
+        UrbCompletion::MASK,
+        UrbCompletion::FUNCTION,
+    )
 }
 
 pub(crate) fn read(m: &[u8]) -> Reading

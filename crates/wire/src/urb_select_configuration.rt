@@ -19,7 +19,7 @@ use crate::words::u32_at;
 ghost use mathlib.Core.Path.{_≡_};
 ghost use Prim.Native.Nat.{_+_, _≤_};
 ghost use lib.ListN.{length};
-ghost use Rattle.wire.specs.SelectConfiguration.{selectConfigurationOf, configurationOf, selectConfigurationAllowed};
+ghost use Rattle.wire.specs.SelectConfiguration.{selectConfigurationOf, configurationOf, descriptorOf, selectConfigurationAllowed};
 
 pub struct SelectConfiguration {
     pub flag: u32,
@@ -27,10 +27,20 @@ pub struct SelectConfiguration {
     pub interfaces: Part,
     // the largest NumberOfPipes of its interfaces
     pub pipes: u32,
-    pub descriptor: Part,
-    // the first two bytes of the descriptor, 0 where there is none
+    pub descriptor: Descriptor,
+}
+
+// The configuration descriptor and its first two bytes, 0 where there is none.
+pub struct Descriptor {
+    pub part: Part,
     pub first: u32,
     pub second: u32,
+}
+
+// A descriptor and the byte behind it.
+pub enum DescriptorRead {
+    Fits(Descriptor, usize),
+    Fails(Fault),
 }
 
 impl SelectConfiguration {
@@ -58,51 +68,57 @@ pub(crate) fn read(u: &[u8]) -> StructureRead
     }
 }
 
-// What follows an interface list that ends at `end`.
+// The configuration whose interface list ends at `end`.
 fn configuration(u: &[u8], count: u32, end: usize, pipes: u32) -> StructureRead
     requires { ⌜ 25 ≤ length (now u) ⌝ }
     requires { ⌜ 32 ≤ end ⌝ }
     ensures { λ r. ⌜ r ≡ configurationOf (now (u .entry)) count end pipes ⌝ }
 {
     let flag = byte_at(u, 24);
-    let interfaces = Part {
-        start: 32,
-        size: end - 32,
-    };
-    if flag == 0 {
-        return StructureRead::Fits(
+    match read_descriptor(u, flag, end) {
+        DescriptorRead::Fits(descriptor, last) => StructureRead::Fits(
             Urb::SelectConfiguration(SelectConfiguration {
                 flag: flag,
                 count: count,
-                interfaces: interfaces,
-                pipes: pipes,
-                descriptor: Part {
-                    start: end,
-                    size: 0,
+                interfaces: Part {
+                    start: 32,
+                    size: end - 32,
                 },
+                pipes: pipes,
+                descriptor: descriptor,
+            }),
+            last,
+        ),
+        DescriptorRead::Fails(fault) => StructureRead::Fails(fault),
+    }
+}
+
+fn read_descriptor(u: &[u8], flag: u32, at: usize) -> DescriptorRead
+    ensures { λ r. ⌜ r ≡ descriptorOf (now (u .entry)) flag at ⌝ }
+{
+    if flag == 0 {
+        return DescriptorRead::Fits(
+            Descriptor {
+                part: Part { start: at, size: 0 },
                 first: 0,
                 second: 0,
-            }),
-            end,
+            },
+            at,
         );
     }
-    let left = rest(u, end);
+    let left = rest(u, at);
     if left < 9 {
-        return StructureRead::Fails(Fault::RanOut(end));
+        return DescriptorRead::Fails(Fault::RanOut(at));
     }
-    StructureRead::Fits(
-        Urb::SelectConfiguration(SelectConfiguration {
-            flag: flag,
-            count: count,
-            interfaces: interfaces,
-            pipes: pipes,
-            descriptor: Part {
-                start: end,
+    DescriptorRead::Fits(
+        Descriptor {
+            part: Part {
+                start: at,
                 size: left,
             },
-            first: byte_at(u, end),
-            second: byte_at(u, end + 1),
-        }),
+            first: byte_at(u, at),
+            second: byte_at(u, at + 1),
+        },
         u.len(),
     )
 }
@@ -119,8 +135,9 @@ pub(crate) fn allowed(b: SelectConfiguration) -> bool
     if b.flag == 0 {
         return true;
     }
-    if b.first != 9 {
+    let d = b.descriptor;
+    if d.first != 9 {
         return false;
     }
-    b.second == 2
+    d.second == 2
 }

@@ -13,4 +13,4 @@ calls-known-spec =
     (search needs)
     (search needs)
     (λ c. search (tests, c .enum-told .given .1))
-    (λ c. search (tests, c .before .before .before .known .given .1, ← (c .before .number .ensures), ← (c .calls-at .ensures))))
+    (λ c. search (tests, c .before .before .before .known .given .1, ← (c .before .number .ensures), ← (c .calls .ensures))))

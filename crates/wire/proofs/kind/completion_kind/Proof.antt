@@ -1,6 +1,5 @@
--- `wire::kind::completion_kind` meets its contract.
+-- `wire::kind::completion_kind` meets its contract: the rows before the one that fits do not fit.
 use borrow.Author.Needs.{needs}
-use Rattle.wire.proofs.Tests.{tests}
 use Rattle.wire.proofs.kind.completion_kind.Statement.{statement}
 use Rattle.wire.proofs.kind.completion_kind.Tie as tie
 
@@ -9,9 +8,9 @@ completion-kind-spec =
     tie.close
     (tie.spec
     (search needs)
-    (λ c. search (tests, ← (c .before .calls-known .ensures), c .if1 .taken))
+    (λ c. rw (← (c .before .fits2 .ensures), c .if1 .taken))
     (search needs)
-    (λ c. search (tests, ← (c .before .before .before .calls-known .ensures), c .before .before .if1 .left, ← (c .before .calls-known2 .ensures), c .if2 .taken))
+    (λ c. rw (← (c .before .before .before .fits2 .ensures), c .before .before .if1 .left, ← (c .before .fits3 .ensures), c .if2 .taken))
     (search needs)
-    (λ c. search (tests, ← (c .before .before .before .before .before .calls-known .ensures), c .before .before .before .before .if1 .left, ← (c .before .before .before .calls-known2 .ensures), c .before .before .if2 .left, ← (c .before .calls-known3 .ensures), c .if3 .taken))
-    (λ c. search (tests, ← (c .before .before .before .before .before .calls-known .ensures), c .before .before .before .before .if1 .left, ← (c .before .before .before .calls-known2 .ensures), c .before .before .if2 .left, ← (c .before .calls-known3 .ensures), c .if3 .left)))
+    (λ c. rw (← (c .before .before .before .before .before .fits2 .ensures), c .before .before .before .before .if1 .left, ← (c .before .before .before .fits3 .ensures), c .before .before .if2 .left, ← (c .before .fits4 .ensures), c .if3 .taken))
+    (λ c. rw (← (c .before .before .before .before .before .fits2 .ensures), c .before .before .before .before .if1 .left, ← (c .before .before .before .fits3 .ensures), c .before .before .if2 .left, ← (c .before .fits4 .ensures), c .if3 .left)))

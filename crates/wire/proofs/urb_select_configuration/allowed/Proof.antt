@@ -1,4 +1,4 @@
--- `wire::urb_select_configuration::allowed` meets its contract.
+-- `wire::urb_select_configuration::allowed` meets its contract: its tests are those of the rule.
 use borrow.Author.Needs.{needs}
 use Rattle.wire.proofs.Tests.{tests}
 use Rattle.wire.proofs.urb_select_configuration.allowed.Statement.{statement}

@@ -1,11 +1,11 @@
--- `wire::kind::to` meets its contract.
+-- `wire::kind::goes_to` meets its contract: the three tests are those of `goesTo`.
 use borrow.Author.Needs.{needs}
 use Rattle.wire.proofs.Tests.{tests}
-use Rattle.wire.proofs.kind.to.Statement.{statement}
-use Rattle.wire.proofs.kind.to.Tie as tie
+use Rattle.wire.proofs.kind.goes_to.Statement.{statement}
+use Rattle.wire.proofs.kind.goes_to.Tie as tie
 
-pub to-spec : {M : Type 1} → statement M
-to-spec =
+pub goes-to-spec : {M : Type 1} → statement M
+goes-to-spec =
     tie.close
     (tie.spec
     (search needs)
