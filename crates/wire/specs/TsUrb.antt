@@ -65,7 +65,7 @@ structureOf u function =
     (oneSizeOf u function)))
 
 abbrev pub urbWith : List ℕ → StructureRead → TsUrbRead
-urbWith u (Fits urb end) = ts.Fits (record { function = halfAt u 18; request = urbRequestIn (wordAt u 20); noack = leb 0x8000_0000 (wordAt u 20); urb = urb }) end
+urbWith u (Fits urb end) = ts.Fits (record { size = halfAt u 16; function = halfAt u 18; request = urbRequestIn (wordAt u 20); noack = leb 0x8000_0000 (wordAt u 20); urb = urb }) end
 urbWith u (Fails fault) = ts.Fails fault
 
 -- its Size is CbTsUrb, which is all of u from 16 on

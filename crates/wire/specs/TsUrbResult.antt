@@ -13,7 +13,7 @@ unfoldable pub completedOf : List ℕ → ℕ → CompletionRead
 completedOf m n =
     field Fails m (20 + n) 4
     (field Fails m (20 + n + 4) 4
-    (Fits (record { request = requestIn (wordAt m 12); urb = record { status = wordAt m 24; rest = record { start = 28; size = n - 8 } }; result = wordAt m (20 + n); size = wordAt m (20 + n + 4); after = 20 + n + 8 })))
+    (Fits (record { request = requestIn (wordAt m 12); urb = record { size = n; status = wordAt m 24; rest = record { start = 28; size = n - 8 } }; result = wordAt m (20 + n); size = wordAt m (20 + n + 4); after = 20 + n + 8 })))
 
 -- a result of n bytes: at least 8, all there, and its own Size is n
 unfoldable pub completionWith : List ℕ → ℕ → CompletionRead

@@ -41,6 +41,7 @@ pub enum Urb {
 }
 
 pub struct TsUrb {
+    pub size: u32,
     pub function: u32,
     pub request: RequestId,
     pub noack: bool,
@@ -63,8 +64,8 @@ pub(crate) fn read(u: &[u8]) -> TsUrbRead
     requires { ⌜ 24 ≤ length (now u) ⌝ }
     ensures { λ r. ⌜ r ≡ tsUrbOf (now (u .entry)) ⌝ }
 {
-    let size = u16_at(u, 16) as usize;
-    if size != rest(u, 16) {
+    let size = u16_at(u, 16);
+    if size as usize != rest(u, 16) {
         return TsUrbRead::Fails(Fault::Disagrees(16));
     }
     let function = u16_at(u, 18);
@@ -72,6 +73,7 @@ pub(crate) fn read(u: &[u8]) -> TsUrbRead
     match structure(u, function) {
         StructureRead::Fits(urb, end) => TsUrbRead::Fits(
             TsUrb {
+                size: size,
                 function: function,
                 request: RequestId::of_urb_word(word),
                 noack: 0x8000_0000 <= word,

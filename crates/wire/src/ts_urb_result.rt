@@ -21,6 +21,7 @@ ghost use lib.ListN.{length};
 ghost use Rattle.wire.specs.TsUrbResult.{completionOf, completedOf};
 
 pub struct TsUrbResult {
+    pub size: u32,
     pub status: u32,
     pub rest: Part,
 }
@@ -48,27 +49,26 @@ pub(crate) fn read(m: &[u8]) -> CompletionRead
     if rest(m, 16) < 4 {
         return CompletionRead::Fails(Fault::RanOut(16));
     }
-    let size = u32_at(m, 16) as usize;
+    let size = u32_at(m, 16);
     if size < 8 {
         return CompletionRead::Fails(Fault::Disagrees(16));
     }
-    if rest(m, 20) < size {
+    if rest(m, 20) < size as usize {
         return CompletionRead::Fails(Fault::RanOut(20));
     }
-    if u16_at(m, 20) as usize != size {
+    if u16_at(m, 20) != size {
         return CompletionRead::Fails(Fault::Disagrees(20));
     }
     completed(m, size)
 }
 
 // What follows a result of `size` bytes.
-fn completed(m: &[u8], size: usize) -> CompletionRead
+fn completed(m: &[u8], size: u32) -> CompletionRead
     requires { ⌜ 8 ≤ size ⌝ }
     requires { ⌜ 28 ≤ length (now m) ⌝ }
-    requires { ⌜ size ≤ 4294967295 ⌝ }
     ensures { λ r. ⌜ r ≡ completedOf (now (m .entry)) size ⌝ }
 {
-    let e = 20 + size;
+    let e = 20 + size as usize;
     if rest(m, e) < 4 {
         return CompletionRead::Fails(Fault::RanOut(e));
     }
@@ -78,10 +78,11 @@ fn completed(m: &[u8], size: usize) -> CompletionRead
     CompletionRead::Fits(Completion {
         request: RequestId::of_word(u32_at(m, 12)),
         urb: TsUrbResult {
+            size: size,
             status: u32_at(m, 24),
             rest: Part {
                 start: 28,
-                size: size - 8,
+                size: size as usize - 8,
             },
         },
         result: u32_at(m, e),

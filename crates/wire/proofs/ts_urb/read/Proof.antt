@@ -21,5 +21,5 @@ read-spec =
     (search needs)
     (search needs)
     (search needs)
-    (λ c. let k = c .before .before .before .before .before .before .before in rw (← (k .before .before .u16-at .ensures), ← (k .before .rest .ensures), eq-eqb _ _ (k .if1 .left), ← (c .before .before .before .before .before .before .u16-at2 .ensures), ← (c .before .before .before .before .structure .ensures), c .before .before .urb .given .1, ← (c .before .before .before .before .before .before .u16-at2 .ensures), ← (c .before .before .before .before .before .u32-at .ensures), ← (c .of-urb-word .ensures)))
+    (λ c. let k = c .before .before .before .before .before .before .before in rw (← (k .before .before .u16-at .ensures), ← (k .before .rest .ensures), eq-eqb _ _ (k .if1 .left), ← (c .before .before .before .before .before .before .u16-at2 .ensures), ← (c .before .before .before .before .structure .ensures), c .before .before .urb .given .1, ← (k .before .before .u16-at .ensures), ← (c .before .before .before .before .before .before .u16-at2 .ensures), ← (c .before .before .before .before .before .u32-at .ensures), ← (c .of-urb-word .ensures)))
     (λ c. search (tests, ← (c .before .before .before .before .before .before .before .before .u16-at .ensures), ← (c .before .before .before .before .before .before .before .rest .ensures), ← (c .before .before .before .before .before .u16-at2 .ensures), ← (c .before .before .before .before .u32-at .ensures), ← (c .before .before .before .structure .ensures), c .before .fault .given .1)))
