@@ -29,3 +29,4 @@ pub mod UrbCompletionNoData
 pub mod Reading
 pub mod Values
 pub mod Payload
+pub mod Sizes

@@ -1,0 +1,385 @@
+-- Laws of the size reader: a message that fits is as long as its fields add up to, and its parts lie within it.
+use Prim.Native.Nat.{ℕ, _+_, _-_, _*_, _≤_}
+use native.Mathlib.Omega.{arith}
+use mathlib.Core.Path.{_≡_, refl, subst}
+use mathlib.Core.List.{List, [], _∷_}
+use mathlib.Core.Bool.{Bool, true, false, cond}
+use lib.ListN.{length, take}
+use lib.Seq.{length-take-le}
+use lib.Dec.{ltb, eqb}
+use borrow.Author.Tests.{ltb-true, ltb-false, eqb-true}
+use Rattle.wire.specs.Words.{byteAt, halfAt, wordAt}
+use Rattle.wire.specs.Layout.{left, field, agrees, atLeast, ended, filled}
+use Rattle.wire.specs.Sizes.{textSize, lengthOf, Within, UrbWithin, PartsWithin}
+use Rattle.wire.specs.CapabilityRequest.{capabilityRequestOf}
+use Rattle.wire.specs.CapabilityResponse.{capabilityResponseOf}
+use Rattle.wire.specs.ChannelCreated.{channelCreatedOf}
+use Rattle.wire.specs.AddVirtualChannel.{addVirtualChannelOf}
+use Rattle.wire.specs.Text.{textOf, unitsOf}
+use Rattle.wire.specs.DeviceCapabilities.{capabilitiesOf}
+use Rattle.wire.specs.AddDevice.{pairWith, pairFrom, pairOf, deviceWith, deviceOf, classesFrom, namesFrom, addDeviceOf}
+use Rattle.wire.specs.CancelRequest.{cancelRequestOf}
+use Rattle.wire.specs.RegisterRequestCallback.{registerRequestCallbackOf}
+use Rattle.wire.specs.IoControl.{ioControlOf, ioControlWith}
+use Rattle.wire.specs.Interfaces.{interfacesOf}
+use Rattle.wire.specs.SelectConfiguration.{descriptorOf, configurationWith, configurationOf, configurationFrom, selectConfigurationOf}
+use Rattle.wire.specs.SelectInterface.{interfaceFrom, selectInterfaceOf}
+use Rattle.wire.specs.IsochTransfer.{isochTransferOf}
+use Rattle.wire.specs.TsUrb.{OneSize, oneSizes, sized, rowOf, oneSizeOf, structureOf, urbWith, tsUrbOf}
+use Rattle.wire.specs.Transfer.{outputOf, transferFrom, transferWith, transferOf}
+use Rattle.wire.specs.TransferInRequest.{incomingFrom, transferInRequestOf}
+use Rattle.wire.specs.TransferOutRequest.{outgoingOf, outgoingFrom, transferOutRequestOf}
+use Rattle.wire.specs.RetractDevice.{retractDeviceOf}
+use Rattle.wire.specs.IoControlCompletion.{ioControlCompletionWith, ioControlCompletionOf}
+use Rattle.wire.specs.TsUrbResult.{completedOf, completionWith, completionOf}
+use Rattle.wire.specs.UrbCompletion.{withOutputOf, withOutputFrom, urbCompletionOf}
+use Rattle.wire.specs.UrbCompletionNoData.{noDataFrom, urbCompletionNoDataOf}
+use Rattle.wire.specs.Reading.{readingOf}
+use Rattle.wire.specs.declared.kind.Kind.{Kind}
+use Rattle.wire.specs.declared.kind.Kind.the-variants as kind
+use Rattle.wire.specs.declared.reading.Fault.{Fault}
+use Rattle.wire.specs.declared.reading.Fault.the-variants.{RanOut, Disagrees, LeftOver}
+use Rattle.wire.specs.declared.reading.Body.{Body}
+use Rattle.wire.specs.declared.reading.Reading.{Reading}
+use Rattle.wire.specs.declared.reading.Reading.the-variants.{Fits, Fails}
+use Rattle.wire.specs.declared.text.Text.{Text}
+use Rattle.wire.specs.declared.text.TextRead.{TextRead}
+use Rattle.wire.specs.declared.text.TextRead.the-variants as text
+use Rattle.wire.specs.declared.add_device.TextPair.{TextPair}
+use Rattle.wire.specs.declared.add_device.PairRead.{PairRead}
+use Rattle.wire.specs.declared.add_device.PairRead.the-variants as pair
+use Rattle.wire.specs.declared.device_capabilities.CapabilitiesRead.{CapabilitiesRead}
+use Rattle.wire.specs.declared.device_capabilities.CapabilitiesRead.the-variants as capabilities
+use Rattle.wire.specs.declared.urb_interfaces.Walk.{Walk}
+use Rattle.wire.specs.declared.urb_interfaces.Walk.the-variants as walk
+use Rattle.wire.specs.declared.urb_select_configuration.DescriptorRead.{DescriptorRead}
+use Rattle.wire.specs.declared.urb_select_configuration.DescriptorRead.the-variants as descriptor
+use Rattle.wire.specs.declared.ts_urb.Urb.{Urb}
+use Rattle.wire.specs.declared.ts_urb.Urb.the-variants.{SelectConfiguration, SelectInterface, GetCurrentFrameNumber, PipeRequest, BulkOrInterruptTransfer, ControlTransfer, IsochTransfer, Unknown}
+use Rattle.wire.specs.declared.ts_urb.StructureRead.{StructureRead}
+use Rattle.wire.specs.declared.ts_urb.StructureRead.the-variants as structure
+use Rattle.wire.specs.declared.ts_urb.TsUrbRead.{TsUrbRead}
+use Rattle.wire.specs.declared.ts_urb.TsUrbRead.the-variants as ts
+use Rattle.wire.specs.declared.transfer.TransferRead.{TransferRead}
+use Rattle.wire.specs.declared.transfer.TransferRead.the-variants as transfer
+use Rattle.wire.specs.declared.ts_urb_result.CompletionRead.{CompletionRead}
+use Rattle.wire.specs.declared.ts_urb_result.CompletionRead.the-variants as completion
+use Rattle.wire.proofs.Walk.{interfaces-end}
+
+-- What holds of every refusal, and of what follows where the size is right, holds of the reading: a law for each step of a layout.
+module _ {A : Type 0} (fails : Fault → A) (P : A → Type 0) (refused : (f : Fault) → P (fails f)) where
+  by-test : (b : Bool) (f : Fault) (next : A) → (b ≡ false → P next) → P (cond b (fails f) next)
+  by-test true f next h = refused f
+  by-test false f next h = h refl
+
+  pub field-by : (m : List ℕ) (at n : ℕ) (next : A) → (n ≤ left m at → P next) → P (field fails m at n next)
+  field-by m at n next h = by-test (ltb (left m at) n) (RanOut at) next (λ e. h (ltb-false (left m at) n e))
+
+  pub atLeast-by : (n size at : ℕ) (next : A) → (n ≤ size → P next) → P (atLeast fails n size at next)
+  atLeast-by n size at next h = by-test (ltb size n) (Disagrees at) next (λ e. h (ltb-false size n e))
+
+  pub ended-by : (m : List ℕ) (at : ℕ) (next : A) → (length m ≤ at → P next) → P (ended fails m at next)
+  ended-by m at next h = by-test (ltb 0 (left m at)) (LeftOver at) next (λ e. h (let z = ltb-false 0 (left m at) e in omega arith))
+
+  pub filled-by : (at end : ℕ) (next : A) → (end ≤ at → P next) → P (filled fails at end next)
+  filled-by at end next h = by-test (ltb at end) (LeftOver at) next (λ e. h (ltb-false at end e))
+
+  pub agrees-by : (a b at : ℕ) (next : A) → (a ≡ b → P next) → P (agrees fails (eqb a b) at next)
+  agrees-by a b at next h = go (eqb a b) (λ e. eqb-true a b e)
+    where
+      go : (t : Bool) → (t ≡ true → a ≡ b) → P (agrees fails t at next)
+      go true e = h (e refl)
+      go false e = refused (Disagrees at)
+
+either : {A : Type 0} (P : A → Type 0) (t : Bool) (x y : A) → (t ≡ true → P x) → (t ≡ false → P y) → P (cond t x y)
+either P true x y f g = f refl
+either P false x y f g = g refl
+
+-- What is shown of each reading.
+abbrev pub Good : List ℕ → Reading → Type 0
+Good m (Fits b) = (12 ≤ length m → length m ≡ lengthOf b) × PartsWithin (length m) b
+Good m (Fails f) = Unit {0}
+
+abbrev TextGood : List ℕ → ℕ → TextRead → Type 0
+TextGood m at (text.Fits t end) = (end ≡ at + textSize t) × (end ≤ length m) × Within (length m) (t .units)
+TextGood m at (text.Fails f) = Unit {0}
+
+abbrev PairGood : List ℕ → ℕ → PairRead → Type 0
+PairGood m at (pair.Fits p end) = (end ≡ at + textSize (p .first) + textSize (p .second)) × (end ≤ length m) × Within (length m) (p .first .units) × Within (length m) (p .second .units)
+PairGood m at (pair.Fails f) = Unit {0}
+
+abbrev CapabilitiesGood : List ℕ → ℕ → CapabilitiesRead → Type 0
+CapabilitiesGood m at (capabilities.Fits c end) = (end ≡ at + 28) × (end ≤ length m)
+CapabilitiesGood m at (capabilities.Fails f) = Unit {0}
+
+abbrev StructureGood : List ℕ → StructureRead → Type 0
+StructureGood u (structure.Fits urb end) = UrbWithin (length u) urb
+StructureGood u (structure.Fails f) = Unit {0}
+
+abbrev TsUrbGood : List ℕ → TsUrbRead → Type 0
+TsUrbGood u (ts.Fits t end) = (t .size ≡ left u 16) × UrbWithin (length u) (t .urb)
+TsUrbGood u (ts.Fails f) = Unit {0}
+
+abbrev TransferGood : List ℕ → TransferRead → Type 0
+TransferGood m (transfer.Fits t) = (t .after ≡ 16 + t .urb .size + 4) × (t .after ≤ length m) × UrbWithin (length m) (t .urb .urb)
+TransferGood m (transfer.Fails f) = Unit {0}
+
+abbrev CompletionGood : List ℕ → CompletionRead → Type 0
+CompletionGood m (completion.Fits c) = (c .after ≡ 20 + c .urb .size + 8) × (c .after ≤ length m) × Within (length m) (c .urb .rest)
+CompletionGood m (completion.Fails f) = Unit {0}
+
+-- the fixed layouts
+capability-request-good : (m : List ℕ) → Good m (capabilityRequestOf m)
+unfolding capabilityRequestOf
+capability-request-good m = field-by Fails (Good m) (λ f. tt) m 12 4 _ λ a. ended-by Fails (Good m) (λ f. tt) m 16 _ λ z. (λ h. omega arith, tt)
+
+capability-response-good : (m : List ℕ) → Good m (capabilityResponseOf m)
+unfolding capabilityResponseOf
+capability-response-good m = field-by Fails (Good m) (λ f. tt) m 8 4 _ λ a. field-by Fails (Good m) (λ f. tt) m 12 4 _ λ b. ended-by Fails (Good m) (λ f. tt) m 16 _ λ z. (λ h. omega arith, tt)
+
+channel-created-good : (m : List ℕ) → Good m (channelCreatedOf m)
+unfolding channelCreatedOf
+channel-created-good m = field-by Fails (Good m) (λ f. tt) m 12 4 _ λ a. field-by Fails (Good m) (λ f. tt) m 16 4 _ λ b. field-by Fails (Good m) (λ f. tt) m 20 4 _ λ c. ended-by Fails (Good m) (λ f. tt) m 24 _ λ z. (λ h. omega arith, tt)
+
+add-virtual-channel-good : (m : List ℕ) → Good m (addVirtualChannelOf m)
+unfolding addVirtualChannelOf
+add-virtual-channel-good m = ended-by Fails (Good m) (λ f. tt) m 12 _ λ z. (λ h. omega arith, tt)
+
+cancel-request-good : (m : List ℕ) → Good m (cancelRequestOf m)
+unfolding cancelRequestOf
+cancel-request-good m = field-by Fails (Good m) (λ f. tt) m 12 4 _ λ a. ended-by Fails (Good m) (λ f. tt) m 16 _ λ z. (λ h. omega arith, tt)
+
+retract-device-good : (m : List ℕ) → Good m (retractDeviceOf m)
+unfolding retractDeviceOf
+retract-device-good m = field-by Fails (Good m) (λ f. tt) m 12 4 _ λ a. ended-by Fails (Good m) (λ f. tt) m 16 _ λ z. (λ h. omega arith, tt)
+
+register-request-callback-good : (m : List ℕ) → Good m (registerRequestCallbackOf m)
+unfolding registerRequestCallbackOf
+register-request-callback-good m =
+    field-by Fails (Good m) (λ f. tt) m 12 4 _ λ a. either (Good m) (eqb (wordAt m 12) 0) _ _
+    (λ e. ended-by Fails (Good m) (λ f. tt) m 16 _ λ z. (λ h. rw e (omega arith), tt))
+    (λ e. field-by Fails (Good m) (λ f. tt) m 16 4 _ λ b. ended-by Fails (Good m) (λ f. tt) m 20 _ λ z. (λ h. rw e (omega arith), tt))
+
+-- layouts with one counted run
+io-control-good : (m : List ℕ) → Good m (ioControlOf m)
+unfolding ioControlOf ioControlWith
+io-control-good m =
+    field-by Fails (Good m) (λ f. tt) m 12 4 _ λ a. field-by Fails (Good m) (λ f. tt) m 16 4 _ λ b. field-by Fails (Good m) (λ f. tt) m 20 (wordAt m 16) _ λ c.
+    field-by Fails (Good m) (λ f. tt) m (20 + wordAt m 16) 4 _ λ d. field-by Fails (Good m) (λ f. tt) m (20 + wordAt m 16 + 4) 4 _ λ e.
+    ended-by Fails (Good m) (λ f. tt) m (20 + wordAt m 16 + 8) _ λ z. (λ h. omega arith, omega arith)
+
+io-control-completion-good : (m : List ℕ) → Good m (ioControlCompletionOf m)
+unfolding ioControlCompletionOf ioControlCompletionWith
+io-control-completion-good m =
+    field-by Fails (Good m) (λ f. tt) m 12 4 _ λ a. field-by Fails (Good m) (λ f. tt) m 16 4 _ λ b. field-by Fails (Good m) (λ f. tt) m 20 4 _ λ c. field-by Fails (Good m) (λ f. tt) m 24 4 _ λ d.
+    field-by Fails (Good m) (λ f. tt) m 28 (wordAt m 24) _ λ e. ended-by Fails (Good m) (λ f. tt) m (28 + wordAt m 24) _ λ z. (λ h. omega arith, omega arith)
+
+-- ADD_DEVICE
+text-good : (m : List ℕ) (at : ℕ) → TextGood m at (textOf m at)
+unfolding textOf unitsOf
+text-good m at =
+    field-by text.Fails (TextGood m at) (λ f. tt) m at 4 _ λ a. field-by text.Fails (TextGood m at) (λ f. tt) m (at + 4) (2 * wordAt m at) _ λ b.
+    (omega arith, omega arith, omega arith)
+
+pair-with-good : (m : List ℕ) (at middle : ℕ) (first : Text) (r : TextRead) → middle ≡ at + textSize first → Within (length m) (first .units) → TextGood m middle r → PairGood m at (pairWith first r)
+pair-with-good m at middle first (text.Fits second end) e w g = (omega arith, g .1, w, g .2)
+pair-with-good m at middle first (text.Fails f) e w g = tt
+
+pair-from-good : (m : List ℕ) (at : ℕ) (r : TextRead) → TextGood m at r → PairGood m at (pairFrom m r)
+pair-from-good m at (text.Fits first middle) g = pair-with-good m at middle first (textOf m middle) (g .0) (g .2) (text-good m middle)
+pair-from-good m at (text.Fails f) g = tt
+
+pair-good : (m : List ℕ) (at : ℕ) → PairGood m at (pairOf m at)
+unfolding pairOf
+pair-good m at = pair-from-good m at (textOf m at) (text-good m at)
+
+capabilities-good : (m : List ℕ) (at : ℕ) → CapabilitiesGood m at (capabilitiesOf m at)
+unfolding capabilitiesOf
+capabilities-good m at = by-test capabilities.Fails (CapabilitiesGood m at) (λ f. tt) (ltb (left m at) 28) _ _ (λ e. let z = ltb-false (left m at) 28 e in (refl, omega arith))
+
+device-with-good : (m : List ℕ) (names classes : TextPair) (middle at : ℕ) (r : CapabilitiesRead) → PairGood m 20 (pair.Fits names middle) → PairGood m middle (pair.Fits classes at) → CapabilitiesGood m at r → Good m (deviceWith m names classes r)
+device-with-good m names classes middle at (capabilities.Fits c end) n k g = ended-by Fails (Good m) (λ f. tt) m end _ λ z. (λ h. omega (arith, n .0, k .0, g .0, g .1), (n .2, n .3, k .2, k .3))
+device-with-good m names classes middle at (capabilities.Fails f) n k g = tt
+
+device-good : (m : List ℕ) (names classes : TextPair) (middle at : ℕ) → PairGood m 20 (pair.Fits names middle) → PairGood m middle (pair.Fits classes at) → Good m (deviceOf m names classes at)
+unfolding deviceOf
+device-good m names classes middle at n k = device-with-good m names classes middle at (capabilitiesOf m at) n k (capabilities-good m at)
+
+classes-good : (m : List ℕ) (names : TextPair) (middle : ℕ) (r : PairRead) → PairGood m 20 (pair.Fits names middle) → PairGood m middle r → Good m (classesFrom m names r)
+classes-good m names middle (pair.Fits classes at) n g = device-good m names classes middle at n g
+classes-good m names middle (pair.Fails f) n g = tt
+
+names-good : (m : List ℕ) (r : PairRead) → PairGood m 20 r → Good m (namesFrom m r)
+names-good m (pair.Fits names middle) g = classes-good m names middle (pairOf m middle) g (pair-good m middle)
+names-good m (pair.Fails f) g = tt
+
+add-device-good : (m : List ℕ) → Good m (addDeviceOf m)
+unfolding addDeviceOf
+add-device-good m = field-by Fails (Good m) (λ f. tt) m 12 4 _ λ a. field-by Fails (Good m) (λ f. tt) m 16 4 _ λ b. names-good m (pairOf m 20) (pair-good m 20)
+
+-- the TsUrb
+configuration-with-good : (u : List ℕ) (end pipes : ℕ) → 32 ≤ end → end ≤ length u → StructureGood u (configurationOf u (wordAt u 28) end pipes)
+unfolding configurationOf descriptorOf
+configuration-with-good u end pipes a b =
+    either (λ r. StructureGood u (configurationWith u (wordAt u 28) end pipes r)) (eqb (byteAt u 24) 0) _ _
+    (λ e. (omega arith, omega arith))
+    (λ e. field-by descriptor.Fails (λ r. StructureGood u (configurationWith u (wordAt u 28) end pipes r)) (λ f. tt) u end 9 _ λ k. (omega arith, omega arith))
+
+configuration-from-good : (u : List ℕ) (w : Walk) → 32 ≤ length u → interfacesOf u (wordAt u 28) 0 32 ≡ w → StructureGood u (configurationFrom u w)
+configuration-from-good u (walk.End end pipes) h e = let q = interfaces-end u (wordAt u 28) 0 32 end pipes e in configuration-with-good u end pipes (q .0) (q .1 h)
+configuration-from-good u (walk.Fails f) h e = tt
+
+select-configuration-good : (u : List ℕ) → StructureGood u (selectConfigurationOf u)
+unfolding selectConfigurationOf
+select-configuration-good u =
+    field-by structure.Fails (StructureGood u) (λ f. tt) u 24 1 _ λ a. field-by structure.Fails (StructureGood u) (λ f. tt) u 25 3 _ λ b. field-by structure.Fails (StructureGood u) (λ f. tt) u 28 4 _ λ c.
+    configuration-from-good u (interfacesOf u (wordAt u 28) 0 32) (omega arith) refl
+
+interface-from-good : (u : List ℕ) (w : Walk) → 28 ≤ length u → interfacesOf u 1 0 28 ≡ w → StructureGood u (interfaceFrom u w)
+interface-from-good u (walk.End end pipes) h e = let q = interfaces-end u 1 0 28 end pipes e in let r = q .1 h in omega (arith, q .0)
+interface-from-good u (walk.Fails f) h e = tt
+
+select-interface-good : (u : List ℕ) → StructureGood u (selectInterfaceOf u)
+unfolding selectInterfaceOf
+select-interface-good u = field-by structure.Fails (StructureGood u) (λ f. tt) u 24 4 _ λ a. interface-from-good u (interfacesOf u 1 0 28) (omega arith) refl
+
+isoch-transfer-good : (u : List ℕ) → StructureGood u (isochTransferOf u)
+unfolding isochTransferOf
+isoch-transfer-good u =
+    atLeast-by structure.Fails (StructureGood u) (λ f. tt) 24 (left u 16) 16 _ λ a. agrees-by structure.Fails (StructureGood u) (λ f. tt) (left u 16) (28 + 12 * wordAt u 36) 16 _ λ b. omega arith
+
+-- the one-size table, row by row: where a row's structure is read, the TsUrb has that row's size
+module _ (u : List ℕ) (function : ℕ) where
+  RowGood : OneSize → Type 0
+  RowGood row = left u 16 ≡ row .size → UrbWithin (length u) (row .structure u)
+
+  AllRows : List OneSize → Type 0
+  AllRows [] = Unit {0}
+  AllRows (row ∷ rows) = RowGood row × AllRows rows
+
+  rows-good : (rows : List OneSize) → AllRows rows → StructureGood u (rowOf rows u function)
+  unfolding AllRows RowGood
+  rows-good [] g = tt
+  rows-good (row ∷ rows) g =
+      either (StructureGood u) (eqb function (row .function)) _ _
+      (λ e. agrees-by structure.Fails (StructureGood u) (λ f. tt) (left u 16) (row .size) 16 _ λ a. g .0 a)
+      (λ e. rows-good rows (g .1))
+
+  one-size-good : StructureGood u (oneSizeOf u function)
+  unfolding oneSizeOf AllRows RowGood
+  one-size-good = rows-good oneSizes (λ e. tt, (λ e. tt, (λ e. tt, (λ e. tt, (λ e. omega arith, tt)))))
+
+  structure-good : StructureGood u (structureOf u function)
+  unfolding structureOf
+  structure-good =
+      either (StructureGood u) (eqb function 0) _ _ (λ e. select-configuration-good u)
+      (λ e. either (StructureGood u) (eqb function 1) _ _ (λ e. select-interface-good u)
+      (λ e. either (StructureGood u) (eqb function 10) _ _ (λ e. isoch-transfer-good u)
+      (λ e. one-size-good)))
+
+urb-with-good : (u : List ℕ) (r : StructureRead) → halfAt u 16 ≡ left u 16 → StructureGood u r → TsUrbGood u (urbWith u r)
+urb-with-good u (structure.Fits urb end) e g = (e, g)
+urb-with-good u (structure.Fails f) e g = tt
+
+ts-urb-good : (u : List ℕ) → TsUrbGood u (tsUrbOf u)
+unfolding tsUrbOf
+ts-urb-good u = agrees-by ts.Fails (TsUrbGood u) (λ f. tt) (halfAt u 16) (left u 16) 16 _ λ a. urb-with-good u (structureOf u (halfAt u 18)) a (structure-good u (halfAt u 18))
+
+-- the transfers
+urb-wider : (n k : ℕ) (urb : Urb) → n ≤ k → UrbWithin n urb → UrbWithin k urb
+urb-wider n k (SelectConfiguration b) h g = (omega (arith, g .0), omega (arith, g .1))
+urb-wider n k (SelectInterface b) h g = omega arith
+urb-wider n k GetCurrentFrameNumber h g = tt
+urb-wider n k (PipeRequest b) h g = tt
+urb-wider n k (BulkOrInterruptTransfer b) h g = tt
+urb-wider n k (ControlTransfer b) h g = omega arith
+urb-wider n k (IsochTransfer b) h g = omega arith
+urb-wider n k Unknown h g = tt
+
+transfer-from-good : (m : List ℕ) (n : ℕ) (r : TsUrbRead) → 8 ≤ n → n ≤ left m 16 → TsUrbGood (take (16 + n) m) r → TransferGood m (transferFrom m (16 + n) r)
+unfolding outputOf
+transfer-from-good m n (ts.Fits t last) a b g =
+    let l = length-take-le (16 + n) m (omega arith) in
+    field-by transfer.Fails (TransferGood m) (λ f. tt) m (16 + n) 4 _ λ c. (omega (arith, g .0), omega arith, urb-wider (length (take (16 + n) m)) (length m) (t .urb) (omega arith) (g .1))
+transfer-from-good m n (ts.Fails f) a b g = tt
+
+transfer-good : (m : List ℕ) → TransferGood m (transferOf m)
+unfolding transferOf transferWith
+transfer-good m =
+    field-by transfer.Fails (TransferGood m) (λ f. tt) m 12 4 _ λ a. atLeast-by transfer.Fails (TransferGood m) (λ f. tt) 8 (wordAt m 12) 12 _ λ b. field-by transfer.Fails (TransferGood m) (λ f. tt) m 16 (wordAt m 12) _ λ c.
+    transfer-from-good m (wordAt m 12) (tsUrbOf (take (16 + wordAt m 12) m)) b c (ts-urb-good (take (16 + wordAt m 12) m))
+
+incoming-good : (m : List ℕ) (r : TransferRead) → TransferGood m r → Good m (incomingFrom m r)
+incoming-good m (transfer.Fits t) g = filled-by Fails (Good m) (λ f. tt) (t .last) (t .end) _ λ a. ended-by Fails (Good m) (λ f. tt) m (t .after) _ λ z. (λ h. omega (arith, g .0, g .1), g .2)
+incoming-good m (transfer.Fails f) g = tt
+
+transfer-in-request-good : (m : List ℕ) → Good m (transferInRequestOf m)
+unfolding transferInRequestOf
+transfer-in-request-good m = incoming-good m (transferOf m) (transfer-good m)
+
+outgoing-good : (m : List ℕ) (r : TransferRead) → TransferGood m r → Good m (outgoingFrom m r)
+unfolding outgoingOf
+outgoing-good m (transfer.Fits t) g =
+    field-by Fails (Good m) (λ f. tt) m (t .after) (t .size) _ λ a. filled-by Fails (Good m) (λ f. tt) (t .last) (t .end) _ λ b. ended-by Fails (Good m) (λ f. tt) m (t .after + t .size) _ λ z.
+    (λ h. omega (arith, g .0, g .1), (g .2, omega (arith, g .1)))
+outgoing-good m (transfer.Fails f) g = tt
+
+transfer-out-request-good : (m : List ℕ) → Good m (transferOutRequestOf m)
+unfolding transferOutRequestOf
+transfer-out-request-good m = outgoing-good m (transferOf m) (transfer-good m)
+
+-- the URB completions
+completion-good : (m : List ℕ) → CompletionGood m (completionOf m)
+unfolding completionOf completionWith completedOf
+completion-good m =
+    field-by completion.Fails (CompletionGood m) (λ f. tt) m 12 4 _ λ a. field-by completion.Fails (CompletionGood m) (λ f. tt) m 16 4 _ λ b.
+    atLeast-by completion.Fails (CompletionGood m) (λ f. tt) 8 (wordAt m 16) 16 _ λ c. field-by completion.Fails (CompletionGood m) (λ f. tt) m 20 (wordAt m 16) _ λ d.
+    agrees-by completion.Fails (CompletionGood m) (λ f. tt) (halfAt m 20) (wordAt m 16) 20 _ λ e.
+    field-by completion.Fails (CompletionGood m) (λ f. tt) m (20 + wordAt m 16) 4 _ λ g. field-by completion.Fails (CompletionGood m) (λ f. tt) m (20 + wordAt m 16 + 4) 4 _ λ k.
+    (refl, omega arith, omega arith)
+
+with-output-good : (m : List ℕ) (r : CompletionRead) → CompletionGood m r → Good m (withOutputFrom m r)
+unfolding withOutputOf
+with-output-good m (completion.Fits c) g =
+    field-by Fails (Good m) (λ f. tt) m (c .after) (c .size) _ λ a. ended-by Fails (Good m) (λ f. tt) m (c .after + c .size) _ λ z.
+    (λ h. omega (arith, g .0, g .1), (g .2, omega (arith, g .1)))
+with-output-good m (completion.Fails f) g = tt
+
+urb-completion-good : (m : List ℕ) → Good m (urbCompletionOf m)
+unfolding urbCompletionOf
+urb-completion-good m = with-output-good m (completionOf m) (completion-good m)
+
+no-data-good : (m : List ℕ) (r : CompletionRead) → CompletionGood m r → Good m (noDataFrom m r)
+no-data-good m (completion.Fits c) g = ended-by Fails (Good m) (λ f. tt) m (c .after) _ λ z. (λ h. omega (arith, g .0, g .1), g .2)
+no-data-good m (completion.Fails f) g = tt
+
+urb-completion-no-data-good : (m : List ℕ) → Good m (urbCompletionNoDataOf m)
+unfolding urbCompletionNoDataOf
+urb-completion-no-data-good m = no-data-good m (completionOf m) (completion-good m)
+
+good : (k : Kind) (m : List ℕ) → Good m (readingOf k m)
+unfolding readingOf
+good kind.CapabilityRequest m = capability-request-good m
+good kind.CapabilityResponse m = capability-response-good m
+good kind.ChannelCreatedByServer m = channel-created-good m
+good kind.ChannelCreatedByClient m = channel-created-good m
+good kind.AddVirtualChannel m = add-virtual-channel-good m
+good kind.AddDevice m = add-device-good m
+good kind.CancelRequest m = cancel-request-good m
+good kind.RegisterRequestCallback m = register-request-callback-good m
+good kind.IoControl m = io-control-good m
+good kind.InternalIoControl m = io-control-good m
+good kind.TransferInRequest m = transfer-in-request-good m
+good kind.TransferOutRequest m = transfer-out-request-good m
+good kind.RetractDevice m = retract-device-good m
+good kind.IoControlCompletion m = io-control-completion-good m
+good kind.UrbCompletion m = urb-completion-good m
+good kind.UrbCompletionNoData m = urb-completion-no-data-good m
+
+-- Of a message that fits its kind, every part lies within it: a part's start and size reach no further than its length.
+pub parts-within : (k : Kind) (m : List ℕ) (b : Body) → readingOf k m ≡ Fits b → PartsWithin (length m) b
+parts-within k m b e = subst (Good m) e (good k m) .1
+
+-- A message of at least 12 bytes that fits its kind is exactly as long as its fields add up to.
+pub exact-length : (k : Kind) (m : List ℕ) (b : Body) → 12 ≤ length m → readingOf k m ≡ Fits b → length m ≡ lengthOf b
+exact-length k m b h e = subst (Good m) e (good k m) .0 h
