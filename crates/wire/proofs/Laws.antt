@@ -91,7 +91,7 @@ module _ {A : Type 0} (fails : Fault → A) (P : A → Type 0) (refused : (f : F
       go true e = h (e refl)
       go false e = refused (Disagrees at)
 
-either : {A : Type 0} (P : A → Type 0) (t : Bool) (x y : A) → (t ≡ true → P x) → (t ≡ false → P y) → P (cond t x y)
+pub either : {A : Type 0} (P : A → Type 0) (t : Bool) (x y : A) → (t ≡ true → P x) → (t ≡ false → P y) → P (cond t x y)
 either P true x y f g = f refl
 either P false x y f g = g refl
 

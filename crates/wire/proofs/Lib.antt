@@ -1,3 +1,4 @@
+pub mod Blind
 pub mod Laws
 pub mod Tests
 pub mod Walk
