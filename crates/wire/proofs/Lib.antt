@@ -1,4 +1,5 @@
 pub mod Blind
+pub mod Determined
 pub mod Laws
 pub mod Tests
 pub mod Walk
