@@ -34,14 +34,39 @@ use Rattle.wire.specs.IoControlCompletion.{ioControlCompletionWith, ioCo
 use Rattle.wire.specs.TsUrbResult.{completedOf, completionWith, completionOf}
 use Rattle.wire.specs.UrbCompletion.{withOutputOf, withOutputFrom, urbCompletionOf}
 use Rattle.wire.specs.UrbCompletionNoData.{noDataFrom, urbCompletionNoDataOf}
-use Rattle.wire.specs.Reading.{readingOf}
+use Rattle.wire.specs.Reading.{Body, Reading, Fits, Fails, readingOf, capabilityRequestReading, capabilityResponseReading, channelCreatedReading, addVirtualChannelReading, addDeviceReading, cancelRequestReading, registerRequestCallbackReading, ioControlReading, transferInRequestReading, transferOutRequestReading, retractDeviceReading, ioControlCompletionReading, urbCompletionReading, urbCompletionNoDataReading}
+use Rattle.wire.specs.declared.capability_request.CapabilityRequestRead.{CapabilityRequestRead}
+use Rattle.wire.specs.declared.capability_request.CapabilityRequestRead.the-variants as capabilityRequest
+use Rattle.wire.specs.declared.capability_response.CapabilityResponseRead.{CapabilityResponseRead}
+use Rattle.wire.specs.declared.capability_response.CapabilityResponseRead.the-variants as capabilityResponse
+use Rattle.wire.specs.declared.channel_created.ChannelCreatedRead.{ChannelCreatedRead}
+use Rattle.wire.specs.declared.channel_created.ChannelCreatedRead.the-variants as channelCreated
+use Rattle.wire.specs.declared.add_virtual_channel.AddVirtualChannelRead.{AddVirtualChannelRead}
+use Rattle.wire.specs.declared.add_virtual_channel.AddVirtualChannelRead.the-variants as addVirtualChannel
+use Rattle.wire.specs.declared.add_device.AddDeviceRead.{AddDeviceRead}
+use Rattle.wire.specs.declared.add_device.AddDeviceRead.the-variants as addDevice
+use Rattle.wire.specs.declared.cancel_request.CancelRequestRead.{CancelRequestRead}
+use Rattle.wire.specs.declared.cancel_request.CancelRequestRead.the-variants as cancelRequest
+use Rattle.wire.specs.declared.register_request_callback.RegisterRequestCallbackRead.{RegisterRequestCallbackRead}
+use Rattle.wire.specs.declared.register_request_callback.RegisterRequestCallbackRead.the-variants as registerRequestCallback
+use Rattle.wire.specs.declared.io_control.IoControlRead.{IoControlRead}
+use Rattle.wire.specs.declared.io_control.IoControlRead.the-variants as ioControl
+use Rattle.wire.specs.declared.transfer_in_request.TransferInRequestRead.{TransferInRequestRead}
+use Rattle.wire.specs.declared.transfer_in_request.TransferInRequestRead.the-variants as transferInRequest
+use Rattle.wire.specs.declared.transfer_out_request.TransferOutRequestRead.{TransferOutRequestRead}
+use Rattle.wire.specs.declared.transfer_out_request.TransferOutRequestRead.the-variants as transferOutRequest
+use Rattle.wire.specs.declared.retract_device.RetractDeviceRead.{RetractDeviceRead}
+use Rattle.wire.specs.declared.retract_device.RetractDeviceRead.the-variants as retractDevice
+use Rattle.wire.specs.declared.io_control_completion.IoControlCompletionRead.{IoControlCompletionRead}
+use Rattle.wire.specs.declared.io_control_completion.IoControlCompletionRead.the-variants as ioControlCompletion
+use Rattle.wire.specs.declared.urb_completion.UrbCompletionRead.{UrbCompletionRead}
+use Rattle.wire.specs.declared.urb_completion.UrbCompletionRead.the-variants as urbCompletion
+use Rattle.wire.specs.declared.urb_completion_no_data.UrbCompletionNoDataRead.{UrbCompletionNoDataRead}
+use Rattle.wire.specs.declared.urb_completion_no_data.UrbCompletionNoDataRead.the-variants as urbCompletionNoData
 use Rattle.wire.specs.declared.kind.Kind.{Kind}
 use Rattle.wire.specs.declared.kind.Kind.the-variants as kind
-use Rattle.wire.specs.declared.reading.Fault.{Fault}
-use Rattle.wire.specs.declared.reading.Fault.the-variants.{RanOut, Disagrees, LeftOver}
-use Rattle.wire.specs.declared.reading.Body.{Body}
-use Rattle.wire.specs.declared.reading.Reading.{Reading}
-use Rattle.wire.specs.declared.reading.Reading.the-variants.{Fits, Fails}
+use Rattle.wire.specs.declared.layout.Fault.{Fault}
+use Rattle.wire.specs.declared.layout.Fault.the-variants.{RanOut, Disagrees, LeftOver}
 use Rattle.wire.specs.declared.text.Text.{Text}
 use Rattle.wire.specs.declared.text.TextRead.{TextRead}
 use Rattle.wire.specs.declared.text.TextRead.the-variants as text
@@ -100,6 +125,48 @@ abbrev pub Good : List ℕ → Reading → Type 0
 Good m (Fits b) = (12 ≤ length m → length m ≡ lengthOf b) × PartsWithin (length m) b
 Good m (Fails f) = Unit {0}
 
+abbrev pub GoodCapabilityRequest : List ℕ → CapabilityRequestRead → Type 0
+GoodCapabilityRequest m r = Good m (capabilityRequestReading r)
+
+abbrev pub GoodCapabilityResponse : List ℕ → CapabilityResponseRead → Type 0
+GoodCapabilityResponse m r = Good m (capabilityResponseReading r)
+
+abbrev pub GoodChannelCreated : List ℕ → ChannelCreatedRead → Type 0
+GoodChannelCreated m r = Good m (channelCreatedReading r)
+
+abbrev pub GoodAddVirtualChannel : List ℕ → AddVirtualChannelRead → Type 0
+GoodAddVirtualChannel m r = Good m (addVirtualChannelReading r)
+
+abbrev pub GoodAddDevice : List ℕ → AddDeviceRead → Type 0
+GoodAddDevice m r = Good m (addDeviceReading r)
+
+abbrev pub GoodCancelRequest : List ℕ → CancelRequestRead → Type 0
+GoodCancelRequest m r = Good m (cancelRequestReading r)
+
+abbrev pub GoodRegisterRequestCallback : List ℕ → RegisterRequestCallbackRead → Type 0
+GoodRegisterRequestCallback m r = Good m (registerRequestCallbackReading r)
+
+abbrev pub GoodIoControl : List ℕ → IoControlRead → Type 0
+GoodIoControl m r = Good m (ioControlReading r)
+
+abbrev pub GoodTransferInRequest : List ℕ → TransferInRequestRead → Type 0
+GoodTransferInRequest m r = Good m (transferInRequestReading r)
+
+abbrev pub GoodTransferOutRequest : List ℕ → TransferOutRequestRead → Type 0
+GoodTransferOutRequest m r = Good m (transferOutRequestReading r)
+
+abbrev pub GoodRetractDevice : List ℕ → RetractDeviceRead → Type 0
+GoodRetractDevice m r = Good m (retractDeviceReading r)
+
+abbrev pub GoodIoControlCompletion : List ℕ → IoControlCompletionRead → Type 0
+GoodIoControlCompletion m r = Good m (ioControlCompletionReading r)
+
+abbrev pub GoodUrbCompletion : List ℕ → UrbCompletionRead → Type 0
+GoodUrbCompletion m r = Good m (urbCompletionReading r)
+
+abbrev pub GoodUrbCompletionNoData : List ℕ → UrbCompletionNoDataRead → Type 0
+GoodUrbCompletionNoData m r = Good m (urbCompletionNoDataReading r)
+
 abbrev TextGood : List ℕ → ℕ → TextRead → Type 0
 TextGood m at (text.Fits t end) = (end ≡ at + textSize t) × (end ≤ length m) × Within (length m) (t .units)
 TextGood m at (text.Fails f) = Unit {0}
@@ -129,50 +196,50 @@ CompletionGood m (completion.Fits c) = (c .after ≡ 20 + c .urb .size + 8) × (
 CompletionGood m (completion.Fails f) = Unit {0}
 
 -- the fixed layouts
-capability-request-good : (m : List ℕ) → Good m (capabilityRequestOf m)
+pub capability-request-good : (m : List ℕ) → GoodCapabilityRequest m (capabilityRequestOf m)
 unfolding capabilityRequestOf
-capability-request-good m = field-by Fails (Good m) (λ f. tt) m 12 4 _ λ a. ended-by Fails (Good m) (λ f. tt) m 16 _ λ z. (λ h. omega arith, tt)
+capability-request-good m = field-by capabilityRequest.Fails (GoodCapabilityRequest m) (λ f. tt) m 12 4 _ λ a. ended-by capabilityRequest.Fails (GoodCapabilityRequest m) (λ f. tt) m 16 _ λ z. (λ h. omega arith, tt)
 
-capability-response-good : (m : List ℕ) → Good m (capabilityResponseOf m)
+pub capability-response-good : (m : List ℕ) → GoodCapabilityResponse m (capabilityResponseOf m)
 unfolding capabilityResponseOf
-capability-response-good m = field-by Fails (Good m) (λ f. tt) m 8 4 _ λ a. field-by Fails (Good m) (λ f. tt) m 12 4 _ λ b. ended-by Fails (Good m) (λ f. tt) m 16 _ λ z. (λ h. omega arith, tt)
+capability-response-good m = field-by capabilityResponse.Fails (GoodCapabilityResponse m) (λ f. tt) m 8 4 _ λ a. field-by capabilityResponse.Fails (GoodCapabilityResponse m) (λ f. tt) m 12 4 _ λ b. ended-by capabilityResponse.Fails (GoodCapabilityResponse m) (λ f. tt) m 16 _ λ z. (λ h. omega arith, tt)
 
-channel-created-good : (m : List ℕ) → Good m (channelCreatedOf m)
+pub channel-created-good : (m : List ℕ) → GoodChannelCreated m (channelCreatedOf m)
 unfolding channelCreatedOf
-channel-created-good m = field-by Fails (Good m) (λ f. tt) m 12 4 _ λ a. field-by Fails (Good m) (λ f. tt) m 16 4 _ λ b. field-by Fails (Good m) (λ f. tt) m 20 4 _ λ c. ended-by Fails (Good m) (λ f. tt) m 24 _ λ z. (λ h. omega arith, tt)
+channel-created-good m = field-by channelCreated.Fails (GoodChannelCreated m) (λ f. tt) m 12 4 _ λ a. field-by channelCreated.Fails (GoodChannelCreated m) (λ f. tt) m 16 4 _ λ b. field-by channelCreated.Fails (GoodChannelCreated m) (λ f. tt) m 20 4 _ λ c. ended-by channelCreated.Fails (GoodChannelCreated m) (λ f. tt) m 24 _ λ z. (λ h. omega arith, tt)
 
-add-virtual-channel-good : (m : List ℕ) → Good m (addVirtualChannelOf m)
+pub add-virtual-channel-good : (m : List ℕ) → GoodAddVirtualChannel m (addVirtualChannelOf m)
 unfolding addVirtualChannelOf
-add-virtual-channel-good m = ended-by Fails (Good m) (λ f. tt) m 12 _ λ z. (λ h. omega arith, tt)
+add-virtual-channel-good m = ended-by addVirtualChannel.Fails (GoodAddVirtualChannel m) (λ f. tt) m 12 _ λ z. (λ h. omega arith, tt)
 
-cancel-request-good : (m : List ℕ) → Good m (cancelRequestOf m)
+pub cancel-request-good : (m : List ℕ) → GoodCancelRequest m (cancelRequestOf m)
 unfolding cancelRequestOf
-cancel-request-good m = field-by Fails (Good m) (λ f. tt) m 12 4 _ λ a. ended-by Fails (Good m) (λ f. tt) m 16 _ λ z. (λ h. omega arith, tt)
+cancel-request-good m = field-by cancelRequest.Fails (GoodCancelRequest m) (λ f. tt) m 12 4 _ λ a. ended-by cancelRequest.Fails (GoodCancelRequest m) (λ f. tt) m 16 _ λ z. (λ h. omega arith, tt)
 
-retract-device-good : (m : List ℕ) → Good m (retractDeviceOf m)
+pub retract-device-good : (m : List ℕ) → GoodRetractDevice m (retractDeviceOf m)
 unfolding retractDeviceOf
-retract-device-good m = field-by Fails (Good m) (λ f. tt) m 12 4 _ λ a. ended-by Fails (Good m) (λ f. tt) m 16 _ λ z. (λ h. omega arith, tt)
+retract-device-good m = field-by retractDevice.Fails (GoodRetractDevice m) (λ f. tt) m 12 4 _ λ a. ended-by retractDevice.Fails (GoodRetractDevice m) (λ f. tt) m 16 _ λ z. (λ h. omega arith, tt)
 
-register-request-callback-good : (m : List ℕ) → Good m (registerRequestCallbackOf m)
+pub register-request-callback-good : (m : List ℕ) → GoodRegisterRequestCallback m (registerRequestCallbackOf m)
 unfolding registerRequestCallbackOf
 register-request-callback-good m =
-    field-by Fails (Good m) (λ f. tt) m 12 4 _ λ a. either (Good m) (eqb (wordAt m 12) 0) _ _
-    (λ e. ended-by Fails (Good m) (λ f. tt) m 16 _ λ z. (λ h. rw e (omega arith), tt))
-    (λ e. field-by Fails (Good m) (λ f. tt) m 16 4 _ λ b. ended-by Fails (Good m) (λ f. tt) m 20 _ λ z. (λ h. rw e (omega arith), tt))
+    field-by registerRequestCallback.Fails (GoodRegisterRequestCallback m) (λ f. tt) m 12 4 _ λ a. either (GoodRegisterRequestCallback m) (eqb (wordAt m 12) 0) _ _
+    (λ e. ended-by registerRequestCallback.Fails (GoodRegisterRequestCallback m) (λ f. tt) m 16 _ λ z. (λ h. rw e (omega arith), tt))
+    (λ e. field-by registerRequestCallback.Fails (GoodRegisterRequestCallback m) (λ f. tt) m 16 4 _ λ b. ended-by registerRequestCallback.Fails (GoodRegisterRequestCallback m) (λ f. tt) m 20 _ λ z. (λ h. rw e (omega arith), tt))
 
 -- layouts with one counted run
-io-control-good : (m : List ℕ) → Good m (ioControlOf m)
+pub io-control-good : (m : List ℕ) → GoodIoControl m (ioControlOf m)
 unfolding ioControlOf ioControlWith
 io-control-good m =
-    field-by Fails (Good m) (λ f. tt) m 12 4 _ λ a. field-by Fails (Good m) (λ f. tt) m 16 4 _ λ b. field-by Fails (Good m) (λ f. tt) m 20 (wordAt m 16) _ λ c.
-    field-by Fails (Good m) (λ f. tt) m (20 + wordAt m 16) 4 _ λ d. field-by Fails (Good m) (λ f. tt) m (20 + wordAt m 16 + 4) 4 _ λ e.
-    ended-by Fails (Good m) (λ f. tt) m (20 + wordAt m 16 + 8) _ λ z. (λ h. omega arith, omega arith)
+    field-by ioControl.Fails (GoodIoControl m) (λ f. tt) m 12 4 _ λ a. field-by ioControl.Fails (GoodIoControl m) (λ f. tt) m 16 4 _ λ b. field-by ioControl.Fails (GoodIoControl m) (λ f. tt) m 20 (wordAt m 16) _ λ c.
+    field-by ioControl.Fails (GoodIoControl m) (λ f. tt) m (20 + wordAt m 16) 4 _ λ d. field-by ioControl.Fails (GoodIoControl m) (λ f. tt) m (20 + wordAt m 16 + 4) 4 _ λ e.
+    ended-by ioControl.Fails (GoodIoControl m) (λ f. tt) m (20 + wordAt m 16 + 8) _ λ z. (λ h. omega arith, omega arith)
 
-io-control-completion-good : (m : List ℕ) → Good m (ioControlCompletionOf m)
+pub io-control-completion-good : (m : List ℕ) → GoodIoControlCompletion m (ioControlCompletionOf m)
 unfolding ioControlCompletionOf ioControlCompletionWith
 io-control-completion-good m =
-    field-by Fails (Good m) (λ f. tt) m 12 4 _ λ a. field-by Fails (Good m) (λ f. tt) m 16 4 _ λ b. field-by Fails (Good m) (λ f. tt) m 20 4 _ λ c. field-by Fails (Good m) (λ f. tt) m 24 4 _ λ d.
-    field-by Fails (Good m) (λ f. tt) m 28 (wordAt m 24) _ λ e. ended-by Fails (Good m) (λ f. tt) m (28 + wordAt m 24) _ λ z. (λ h. omega arith, omega arith)
+    field-by ioControlCompletion.Fails (GoodIoControlCompletion m) (λ f. tt) m 12 4 _ λ a. field-by ioControlCompletion.Fails (GoodIoControlCompletion m) (λ f. tt) m 16 4 _ λ b. field-by ioControlCompletion.Fails (GoodIoControlCompletion m) (λ f. tt) m 20 4 _ λ c. field-by ioControlCompletion.Fails (GoodIoControlCompletion m) (λ f. tt) m 24 4 _ λ d.
+    field-by ioControlCompletion.Fails (GoodIoControlCompletion m) (λ f. tt) m 28 (wordAt m 24) _ λ e. ended-by ioControlCompletion.Fails (GoodIoControlCompletion m) (λ f. tt) m (28 + wordAt m 24) _ λ z. (λ h. omega arith, omega arith)
 
 -- ADD_DEVICE
 text-good : (m : List ℕ) (at : ℕ) → TextGood m at (textOf m at)
@@ -197,25 +264,25 @@ capabilities-good : (m : List ℕ) (at : ℕ) → CapabilitiesGood m at (capabil
 unfolding capabilitiesOf
 capabilities-good m at = by-test capabilities.Fails (CapabilitiesGood m at) (λ f. tt) (ltb (left m at) 28) _ _ (λ e. let z = ltb-false (left m at) 28 e in (refl, omega arith))
 
-device-with-good : (m : List ℕ) (names classes : TextPair) (middle at : ℕ) (r : CapabilitiesRead) → PairGood m 20 (pair.Fits names middle) → PairGood m middle (pair.Fits classes at) → CapabilitiesGood m at r → Good m (deviceWith m names classes r)
-device-with-good m names classes middle at (capabilities.Fits c end) n k g = ended-by Fails (Good m) (λ f. tt) m end _ λ z. (λ h. omega (arith, n .0, k .0, g .0, g .1), (n .2, n .3, k .2, k .3))
+device-with-good : (m : List ℕ) (names classes : TextPair) (middle at : ℕ) (r : CapabilitiesRead) → PairGood m 20 (pair.Fits names middle) → PairGood m middle (pair.Fits classes at) → CapabilitiesGood m at r → GoodAddDevice m (deviceWith m names classes r)
+device-with-good m names classes middle at (capabilities.Fits c end) n k g = ended-by addDevice.Fails (GoodAddDevice m) (λ f. tt) m end _ λ z. (λ h. omega (arith, n .0, k .0, g .0, g .1), (n .2, n .3, k .2, k .3))
 device-with-good m names classes middle at (capabilities.Fails f) n k g = tt
 
-device-good : (m : List ℕ) (names classes : TextPair) (middle at : ℕ) → PairGood m 20 (pair.Fits names middle) → PairGood m middle (pair.Fits classes at) → Good m (deviceOf m names classes at)
+device-good : (m : List ℕ) (names classes : TextPair) (middle at : ℕ) → PairGood m 20 (pair.Fits names middle) → PairGood m middle (pair.Fits classes at) → GoodAddDevice m (deviceOf m names classes at)
 unfolding deviceOf
 device-good m names classes middle at n k = device-with-good m names classes middle at (capabilitiesOf m at) n k (capabilities-good m at)
 
-classes-good : (m : List ℕ) (names : TextPair) (middle : ℕ) (r : PairRead) → PairGood m 20 (pair.Fits names middle) → PairGood m middle r → Good m (classesFrom m names r)
+classes-good : (m : List ℕ) (names : TextPair) (middle : ℕ) (r : PairRead) → PairGood m 20 (pair.Fits names middle) → PairGood m middle r → GoodAddDevice m (classesFrom m names r)
 classes-good m names middle (pair.Fits classes at) n g = device-good m names classes middle at n g
 classes-good m names middle (pair.Fails f) n g = tt
 
-names-good : (m : List ℕ) (r : PairRead) → PairGood m 20 r → Good m (namesFrom m r)
+names-good : (m : List ℕ) (r : PairRead) → PairGood m 20 r → GoodAddDevice m (namesFrom m r)
 names-good m (pair.Fits names middle) g = classes-good m names middle (pairOf m middle) g (pair-good m middle)
 names-good m (pair.Fails f) g = tt
 
-add-device-good : (m : List ℕ) → Good m (addDeviceOf m)
+pub add-device-good : (m : List ℕ) → GoodAddDevice m (addDeviceOf m)
 unfolding addDeviceOf
-add-device-good m = field-by Fails (Good m) (λ f. tt) m 12 4 _ λ a. field-by Fails (Good m) (λ f. tt) m 16 4 _ λ b. names-good m (pairOf m 20) (pair-good m 20)
+add-device-good m = field-by addDevice.Fails (GoodAddDevice m) (λ f. tt) m 12 4 _ λ a. field-by addDevice.Fails (GoodAddDevice m) (λ f. tt) m 16 4 _ λ b. names-good m (pairOf m 20) (pair-good m 20)
 
 -- the TsUrb
 configuration-with-good : (u : List ℕ) (end pipes : ℕ) → 32 ≤ end → end ≤ length u → StructureGood u (configurationOf u (wordAt u 28) end pipes)
@@ -309,22 +376,22 @@ transfer-good m =
     field-by transfer.Fails (TransferGood m) (λ f. tt) m 12 4 _ λ a. atLeast-by transfer.Fails (TransferGood m) (λ f. tt) 8 (wordAt m 12) 12 _ λ b. field-by transfer.Fails (TransferGood m) (λ f. tt) m 16 (wordAt m 12) _ λ c.
     transfer-from-good m (wordAt m 12) (tsUrbOf (take (16 + wordAt m 12) m)) b c (ts-urb-good (take (16 + wordAt m 12) m))
 
-incoming-good : (m : List ℕ) (r : TransferRead) → TransferGood m r → Good m (incomingFrom m r)
-incoming-good m (transfer.Fits t) g = filled-by Fails (Good m) (λ f. tt) (t .last) (t .end) _ λ a. ended-by Fails (Good m) (λ f. tt) m (t .after) _ λ z. (λ h. omega (arith, g .0, g .1), g .2)
+incoming-good : (m : List ℕ) (r : TransferRead) → TransferGood m r → GoodTransferInRequest m (incomingFrom m r)
+incoming-good m (transfer.Fits t) g = filled-by transferInRequest.Fails (GoodTransferInRequest m) (λ f. tt) (t .last) (t .end) _ λ a. ended-by transferInRequest.Fails (GoodTransferInRequest m) (λ f. tt) m (t .after) _ λ z. (λ h. omega (arith, g .0, g .1), g .2)
 incoming-good m (transfer.Fails f) g = tt
 
-transfer-in-request-good : (m : List ℕ) → Good m (transferInRequestOf m)
+pub transfer-in-request-good : (m : List ℕ) → GoodTransferInRequest m (transferInRequestOf m)
 unfolding transferInRequestOf
 transfer-in-request-good m = incoming-good m (transferOf m) (transfer-good m)
 
-outgoing-good : (m : List ℕ) (r : TransferRead) → TransferGood m r → Good m (outgoingFrom m r)
+outgoing-good : (m : List ℕ) (r : TransferRead) → TransferGood m r → GoodTransferOutRequest m (outgoingFrom m r)
 unfolding outgoingOf
 outgoing-good m (transfer.Fits t) g =
-    field-by Fails (Good m) (λ f. tt) m (t .after) (t .size) _ λ a. filled-by Fails (Good m) (λ f. tt) (t .last) (t .end) _ λ b. ended-by Fails (Good m) (λ f. tt) m (t .after + t .size) _ λ z.
+    field-by transferOutRequest.Fails (GoodTransferOutRequest m) (λ f. tt) m (t .after) (t .size) _ λ a. filled-by transferOutRequest.Fails (GoodTransferOutRequest m) (λ f. tt) (t .last) (t .end) _ λ b. ended-by transferOutRequest.Fails (GoodTransferOutRequest m) (λ f. tt) m (t .after + t .size) _ λ z.
     (λ h. omega (arith, g .0, g .1), (g .2, omega (arith, g .1)))
 outgoing-good m (transfer.Fails f) g = tt
 
-transfer-out-request-good : (m : List ℕ) → Good m (transferOutRequestOf m)
+pub transfer-out-request-good : (m : List ℕ) → GoodTransferOutRequest m (transferOutRequestOf m)
 unfolding transferOutRequestOf
 transfer-out-request-good m = outgoing-good m (transferOf m) (transfer-good m)
 
@@ -338,22 +405,22 @@ completion-good m =
     field-by completion.Fails (CompletionGood m) (λ f. tt) m (20 + wordAt m 16) 4 _ λ g. field-by completion.Fails (CompletionGood m) (λ f. tt) m (20 + wordAt m 16 + 4) 4 _ λ k.
     (refl, omega arith, omega arith)
 
-with-output-good : (m : List ℕ) (r : CompletionRead) → CompletionGood m r → Good m (withOutputFrom m r)
+with-output-good : (m : List ℕ) (r : CompletionRead) → CompletionGood m r → GoodUrbCompletion m (withOutputFrom m r)
 unfolding withOutputOf
 with-output-good m (completion.Fits c) g =
-    field-by Fails (Good m) (λ f. tt) m (c .after) (c .size) _ λ a. ended-by Fails (Good m) (λ f. tt) m (c .after + c .size) _ λ z.
+    field-by urbCompletion.Fails (GoodUrbCompletion m) (λ f. tt) m (c .after) (c .size) _ λ a. ended-by urbCompletion.Fails (GoodUrbCompletion m) (λ f. tt) m (c .after + c .size) _ λ z.
     (λ h. omega (arith, g .0, g .1), (g .2, omega (arith, g .1)))
 with-output-good m (completion.Fails f) g = tt
 
-urb-completion-good : (m : List ℕ) → Good m (urbCompletionOf m)
+pub urb-completion-good : (m : List ℕ) → GoodUrbCompletion m (urbCompletionOf m)
 unfolding urbCompletionOf
 urb-completion-good m = with-output-good m (completionOf m) (completion-good m)
 
-no-data-good : (m : List ℕ) (r : CompletionRead) → CompletionGood m r → Good m (noDataFrom m r)
-no-data-good m (completion.Fits c) g = ended-by Fails (Good m) (λ f. tt) m (c .after) _ λ z. (λ h. omega (arith, g .0, g .1), g .2)
+no-data-good : (m : List ℕ) (r : CompletionRead) → CompletionGood m r → GoodUrbCompletionNoData m (noDataFrom m r)
+no-data-good m (completion.Fits c) g = ended-by urbCompletionNoData.Fails (GoodUrbCompletionNoData m) (λ f. tt) m (c .after) _ λ z. (λ h. omega (arith, g .0, g .1), g .2)
 no-data-good m (completion.Fails f) g = tt
 
-urb-completion-no-data-good : (m : List ℕ) → Good m (urbCompletionNoDataOf m)
+pub urb-completion-no-data-good : (m : List ℕ) → GoodUrbCompletionNoData m (urbCompletionNoDataOf m)
 unfolding urbCompletionNoDataOf
 urb-completion-no-data-good m = no-data-good m (completionOf m) (completion-good m)
 

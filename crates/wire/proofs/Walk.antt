@@ -10,12 +10,12 @@ use lib.Dec.{ltb, eqb, eqb·suc-zero}
 use borrow.Author.Tests.{ltb-false}
 use Rattle.wire.specs.Words.{halfAt, wordAt}
 use Rattle.wire.specs.Layout.{left}
-use Rattle.wire.specs.Interfaces.{interfaceField, pipeField, larger, interfacesOf, pipesOf}
+use Rattle.wire.specs.Interfaces.{interfaceField, pipeField, larger, lengthAgrees, interfacesOf, pipesOf}
 use Rattle.wire.specs.declared.urb_interfaces.Walk.{Walk}
 use Rattle.wire.specs.declared.urb_interfaces.Walk.the-variants.{End, Fails}
-use Rattle.wire.specs.declared.reading.Fault.the-variants.{RanOut, Disagrees}
+use Rattle.wire.specs.declared.layout.Fault.the-variants.{RanOut, Disagrees}
 
-pub interfaces-step : (u : List ℕ) (n most at : ℕ) → interfacesOf u n most at ≡ cond (eqb n 0) (End at most) (cond (ltb (left u at) 12) (Fails (RanOut (at + interfaceField (left u at)))) (cond (eqb (halfAt u at) (12 + 12 * wordAt u (at + 8))) (pipesOf u (interfacesOf u (n - 1) (larger most (wordAt u (at + 8)))) (wordAt u (at + 8)) (at + 12)) (Fails (Disagrees at))))
+pub interfaces-step : (u : List ℕ) (n most at : ℕ) → interfacesOf u n most at ≡ cond (eqb n 0) (End at most) (cond (ltb (left u at) 12) (Fails (RanOut (at + interfaceField (left u at)))) (cond (lengthAgrees (halfAt u at) (wordAt u (at + 8))) (pipesOf u (interfacesOf u (n - 1) (larger most (wordAt u (at + 8)))) (wordAt u (at + 8)) (at + 12)) (Fails (Disagrees at))))
 unfolding interfacesOf
 interfaces-step u zero most at = refl
 interfaces-step u (suc n) most at = simp (eqb·suc-zero, sub-one)
@@ -47,7 +47,7 @@ unfolding interfacesOf
 interfaces-end u zero most at e p h =
     let q : at ≡ e = cc in
     (omega arith, λ l. omega arith)
-interfaces-end u (suc n) most at e p h = go (ltb (left u at) 12) refl (eqb (halfAt u at) (12 + 12 * wordAt u (at + 8))) h (λ m x. interfaces-end u n m x e p)
+interfaces-end u (suc n) most at e p h = go (ltb (left u at) 12) refl (lengthAgrees (halfAt u at) (wordAt u (at + 8))) h (λ m x. interfaces-end u n m x e p)
   where
     go : (b : Bool) → ltb (left u at) 12 ≡ b → (t : Bool) → cond b (Fails (RanOut (at + interfaceField (left u at)))) (cond t (pipesOf u (interfacesOf u n (larger most (wordAt u (at + 8)))) (wordAt u (at + 8)) (at + 12)) (Fails (Disagrees at))) ≡ End e p → ((m x : ℕ) → interfacesOf u n m x ≡ End e p → (x ≤ e) × (x ≤ length u → e ≤ length u)) → (at ≤ e) × (at ≤ length u → e ≤ length u)
     go true r t q i = never _ e p (λ z. cc) q

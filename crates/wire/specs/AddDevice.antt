@@ -17,9 +17,8 @@ use Rattle.wire.specs.declared.add_device.PairRead.{PairRead}
 use Rattle.wire.specs.declared.add_device.PairRead.the-variants as pair
 use Rattle.wire.specs.declared.device_capabilities.CapabilitiesRead.{CapabilitiesRead}
 use Rattle.wire.specs.declared.device_capabilities.CapabilitiesRead.the-variants as capabilities
-use Rattle.wire.specs.declared.reading.Reading.{Reading}
-use Rattle.wire.specs.declared.reading.Reading.the-variants.{Fits, Fails}
-use Rattle.wire.specs.declared.reading.Body.the-variants as body
+use Rattle.wire.specs.declared.add_device.AddDeviceRead.{AddDeviceRead}
+use Rattle.wire.specs.declared.add_device.AddDeviceRead.the-variants.{Fits, Fails}
 
 -- two texts, one behind the other
 abbrev pub pairWith : Text → TextRead → PairRead
@@ -34,25 +33,25 @@ unfoldable pub pairOf : List ℕ → ℕ → PairRead
 pairOf m at = pairFrom m (textOf m at)
 
 -- the device, by its texts and what its capabilities read as
-abbrev pub deviceWith : List ℕ → TextPair → TextPair → CapabilitiesRead → Reading
+abbrev pub deviceWith : List ℕ → TextPair → TextPair → CapabilitiesRead → AddDeviceRead
 deviceWith m names classes (capabilities.Fits c end) =
     ended Fails m end
-    (Fits (body.AddDevice (record { count = wordAt m 12; device = interfaceIn (wordAt m 16); mask = maskIn (wordAt m 16); instance = names .first; hardware = names .second; compatible = classes .first; container = classes .second; capabilities = c })))
+    (Fits (record { count = wordAt m 12; device = interfaceIn (wordAt m 16); mask = maskIn (wordAt m 16); instance = names .first; hardware = names .second; compatible = classes .first; container = classes .second; capabilities = c }))
 deviceWith m names classes (capabilities.Fails fault) = Fails fault
 
-unfoldable pub deviceOf : List ℕ → TextPair → TextPair → ℕ → Reading
+unfoldable pub deviceOf : List ℕ → TextPair → TextPair → ℕ → AddDeviceRead
 deviceOf m names classes at = deviceWith m names classes (capabilitiesOf m at)
 
-abbrev pub classesFrom : List ℕ → TextPair → PairRead → Reading
+abbrev pub classesFrom : List ℕ → TextPair → PairRead → AddDeviceRead
 classesFrom m names (pair.Fits classes end) = deviceOf m names classes end
 classesFrom m names (pair.Fails fault) = Fails fault
 
-abbrev pub namesFrom : List ℕ → PairRead → Reading
+abbrev pub namesFrom : List ℕ → PairRead → AddDeviceRead
 namesFrom m (pair.Fits names middle) = classesFrom m names (pairOf m middle)
 namesFrom m (pair.Fails fault) = Fails fault
 
 -- NumUsbDevice, UsbDevice, instance id, hardware ids, compatible ids, container id, 28 bytes of capabilities
-unfoldable pub addDeviceOf : List ℕ → Reading
+unfoldable pub addDeviceOf : List ℕ → AddDeviceRead
 addDeviceOf m = field Fails m 12 4 (field Fails m 16 4 (namesFrom m (pairOf m 20)))
 
 abbrev pub textPairAllowed : Text → Text → Bool

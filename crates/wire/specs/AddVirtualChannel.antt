@@ -2,9 +2,8 @@
 use Prim.Native.Nat.{ℕ}
 use mathlib.Core.List.{List}
 use Rattle.wire.specs.Layout.{ended}
-use Rattle.wire.specs.declared.reading.Reading.{Reading}
-use Rattle.wire.specs.declared.reading.Reading.the-variants.{Fits, Fails}
-use Rattle.wire.specs.declared.reading.Body.the-variants as body
+use Rattle.wire.specs.declared.add_virtual_channel.AddVirtualChannelRead.{AddVirtualChannelRead}
+use Rattle.wire.specs.declared.add_virtual_channel.AddVirtualChannelRead.the-variants.{Fits, Fails}
 
-unfoldable pub addVirtualChannelOf : List ℕ → Reading
-addVirtualChannelOf m = ended Fails m 12 (Fits body.AddVirtualChannel)
+unfoldable pub addVirtualChannelOf : List ℕ → AddVirtualChannelRead
+addVirtualChannelOf m = ended Fails m 12 (Fits)

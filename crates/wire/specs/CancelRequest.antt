@@ -4,12 +4,11 @@ use mathlib.Core.List.{List}
 use Rattle.wire.specs.Words.{wordAt}
 use Rattle.wire.specs.Ids.{requestIn}
 use Rattle.wire.specs.Layout.{field, ended}
-use Rattle.wire.specs.declared.reading.Reading.{Reading}
-use Rattle.wire.specs.declared.reading.Reading.the-variants.{Fits, Fails}
-use Rattle.wire.specs.declared.reading.Body.the-variants as body
+use Rattle.wire.specs.declared.cancel_request.CancelRequestRead.{CancelRequestRead}
+use Rattle.wire.specs.declared.cancel_request.CancelRequestRead.the-variants.{Fits, Fails}
 
-unfoldable pub cancelRequestOf : List ℕ → Reading
+unfoldable pub cancelRequestOf : List ℕ → CancelRequestRead
 cancelRequestOf m =
     field Fails m 12 4
     (ended Fails m 16
-    (Fits (body.CancelRequest (record { request = requestIn (wordAt m 12) }))))
+    (Fits (record { request = requestIn (wordAt m 12) })))

@@ -6,15 +6,14 @@ use lib.Dec.{eqb}
 use Rattle.wire.specs.Words.{wordAt}
 use Rattle.wire.specs.Layout.{field, ended}
 use Rattle.wire.specs.declared.capability_request.CapabilityRequest.{CapabilityRequest}
-use Rattle.wire.specs.declared.reading.Reading.{Reading}
-use Rattle.wire.specs.declared.reading.Reading.the-variants.{Fits, Fails}
-use Rattle.wire.specs.declared.reading.Body.the-variants as body
+use Rattle.wire.specs.declared.capability_request.CapabilityRequestRead.{CapabilityRequestRead}
+use Rattle.wire.specs.declared.capability_request.CapabilityRequestRead.the-variants.{Fits, Fails}
 
-unfoldable pub capabilityRequestOf : List ℕ → Reading
+unfoldable pub capabilityRequestOf : List ℕ → CapabilityRequestRead
 capabilityRequestOf m =
     field Fails m 12 4
     (ended Fails m 16
-    (Fits (body.CapabilityRequest (record { capability = wordAt m 12 }))))
+    (Fits (record { capability = wordAt m 12 })))
 
 abbrev pub capabilityRequestAllowed : CapabilityRequest → Bool
 capabilityRequestAllowed b = eqb (b .capability) 1

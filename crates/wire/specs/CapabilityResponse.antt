@@ -6,16 +6,15 @@ use lib.Dec.{eqb, ltb}
 use Rattle.wire.specs.Words.{wordAt}
 use Rattle.wire.specs.Layout.{field, ended}
 use Rattle.wire.specs.declared.capability_response.CapabilityResponse.{CapabilityResponse}
-use Rattle.wire.specs.declared.reading.Reading.{Reading}
-use Rattle.wire.specs.declared.reading.Reading.the-variants.{Fits, Fails}
-use Rattle.wire.specs.declared.reading.Body.the-variants as body
+use Rattle.wire.specs.declared.capability_response.CapabilityResponseRead.{CapabilityResponseRead}
+use Rattle.wire.specs.declared.capability_response.CapabilityResponseRead.the-variants.{Fits, Fails}
 
-unfoldable pub capabilityResponseOf : List ℕ → Reading
+unfoldable pub capabilityResponseOf : List ℕ → CapabilityResponseRead
 capabilityResponseOf m =
     field Fails m 8 4
     (field Fails m 12 4
     (ended Fails m 16
-    (Fits (body.CapabilityResponse (record { capability = wordAt m 8; result = wordAt m 12 })))))
+    (Fits (record { capability = wordAt m 8; result = wordAt m 12 }))))
 
 -- CapabilityValue 1; Result with its top bit clear
 abbrev pub capabilityResponseAllowed : CapabilityResponse → Bool

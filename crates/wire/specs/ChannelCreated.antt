@@ -6,17 +6,16 @@ use lib.Dec.{eqb}
 use Rattle.wire.specs.Words.{wordAt}
 use Rattle.wire.specs.Layout.{field, ended}
 use Rattle.wire.specs.declared.channel_created.ChannelCreated.{ChannelCreated}
-use Rattle.wire.specs.declared.reading.Reading.{Reading}
-use Rattle.wire.specs.declared.reading.Reading.the-variants.{Fits, Fails}
-use Rattle.wire.specs.declared.reading.Body.the-variants as body
+use Rattle.wire.specs.declared.channel_created.ChannelCreatedRead.{ChannelCreatedRead}
+use Rattle.wire.specs.declared.channel_created.ChannelCreatedRead.the-variants.{Fits, Fails}
 
-unfoldable pub channelCreatedOf : List ℕ → Reading
+unfoldable pub channelCreatedOf : List ℕ → ChannelCreatedRead
 channelCreatedOf m =
     field Fails m 12 4
     (field Fails m 16 4
     (field Fails m 20 4
     (ended Fails m 24
-    (Fits (body.ChannelCreated (record { major = wordAt m 12; minor = wordAt m 16; capabilities = wordAt m 20 }))))))
+    (Fits (record { major = wordAt m 12; minor = wordAt m 16; capabilities = wordAt m 20 })))))
 
 abbrev pub channelCreatedAllowed : ChannelCreated → Bool
 channelCreatedAllowed b = eqb (b .major) 1 && (eqb (b .minor) 0 && eqb (b .capabilities) 0)

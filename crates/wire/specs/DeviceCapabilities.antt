@@ -8,7 +8,7 @@ use Rattle.wire.specs.Layout.{left}
 use Rattle.wire.specs.declared.device_capabilities.DeviceCapabilities.{DeviceCapabilities}
 use Rattle.wire.specs.declared.device_capabilities.CapabilitiesRead.{CapabilitiesRead}
 use Rattle.wire.specs.declared.device_capabilities.CapabilitiesRead.the-variants.{Fits, Fails}
-use Rattle.wire.specs.declared.reading.Fault.the-variants.{RanOut}
+use Rattle.wire.specs.declared.layout.Fault.the-variants.{RanOut}
 
 -- seven fields of four bytes: of n bytes that are too few, the first field that they do not hold starts at n / 4 * 4
 unfoldable pub capabilitiesOf : List ℕ → ℕ → CapabilitiesRead

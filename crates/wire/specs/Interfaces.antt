@@ -7,7 +7,7 @@ use Rattle.wire.specs.Words.{halfAt, wordAt}
 use Rattle.wire.specs.Layout.{left}
 use Rattle.wire.specs.declared.urb_interfaces.Walk.{Walk}
 use Rattle.wire.specs.declared.urb_interfaces.Walk.the-variants.{End, Fails}
-use Rattle.wire.specs.declared.reading.Fault.the-variants.{RanOut, Disagrees}
+use Rattle.wire.specs.declared.layout.Fault.the-variants.{RanOut, Disagrees}
 
 -- the start of the field of an interface that n bytes no longer hold: Length 0, NumberOfPipesExpected 2, InterfaceNumber 4,
 -- AlternateSetting 5, Padding 6, NumberOfPipes 8
@@ -21,6 +21,10 @@ pipeField n = cond (ltb n 2) 0 (cond (ltb n 4) 2 (cond (ltb n 8) 4 8))
 abbrev pub larger : ℕ → ℕ → ℕ
 larger a b = cond (ltb a b) b a
 
+-- Length is 12 + 12 times the pipe count
+abbrev pub lengthAgrees : ℕ → ℕ → Bool
+lengthAgrees length pipes = eqb length (12 + 12 * pipes)
+
 -- pipes from a place on, and then what `next` says of the place behind them
 unfoldable pub pipesOf : List ℕ → (ℕ → Walk) → ℕ → ℕ → Walk
 pipesOf u next zero at = next at
@@ -31,6 +35,6 @@ unfoldable pub interfacesOf : List ℕ → ℕ → ℕ → ℕ → Walk
 interfacesOf u zero most at = End at most
 interfacesOf u (suc n) most at =
     cond (ltb (left u at) 12) (Fails (RanOut (at + interfaceField (left u at))))
-    (cond (eqb (halfAt u at) (12 + 12 * wordAt u (at + 8)))
+    (cond (lengthAgrees (halfAt u at) (wordAt u (at + 8)))
     (pipesOf u (interfacesOf u n (larger most (wordAt u (at + 8)))) (wordAt u (at + 8)) (at + 12))
     (Fails (Disagrees at)))

@@ -4,20 +4,19 @@ use mathlib.Core.List.{List}
 use Rattle.wire.specs.Words.{wordAt}
 use Rattle.wire.specs.Ids.{requestIn}
 use Rattle.wire.specs.Layout.{field, ended}
-use Rattle.wire.specs.declared.reading.Reading.{Reading}
-use Rattle.wire.specs.declared.reading.Reading.the-variants.{Fits, Fails}
-use Rattle.wire.specs.declared.reading.Body.the-variants as body
+use Rattle.wire.specs.declared.io_control.IoControlRead.{IoControlRead}
+use Rattle.wire.specs.declared.io_control.IoControlRead.the-variants.{Fits, Fails}
 
 -- a is InputBufferSize
-unfoldable pub ioControlWith : List ℕ → ℕ → Reading
+unfoldable pub ioControlWith : List ℕ → ℕ → IoControlRead
 ioControlWith m a =
     field Fails m 20 a
     (field Fails m (20 + a) 4
     (field Fails m (20 + a + 4) 4
     (ended Fails m (20 + a + 8)
-    (Fits (body.IoControl (record { code = wordAt m 12; input = record { start = 20; size = a }; output = wordAt m (20 + a); request = requestIn (wordAt m (20 + a + 4)) }))))))
+    (Fits (record { code = wordAt m 12; input = record { start = 20; size = a }; output = wordAt m (20 + a); request = requestIn (wordAt m (20 + a + 4)) })))))
 
-unfoldable pub ioControlOf : List ℕ → Reading
+unfoldable pub ioControlOf : List ℕ → IoControlRead
 ioControlOf m =
     field Fails m 12 4
     (field Fails m 16 4

@@ -4,18 +4,17 @@ use mathlib.Core.List.{List}
 use Rattle.wire.specs.Words.{wordAt}
 use Rattle.wire.specs.Ids.{requestIn}
 use Rattle.wire.specs.Layout.{field, ended}
-use Rattle.wire.specs.declared.reading.Reading.{Reading}
-use Rattle.wire.specs.declared.reading.Reading.the-variants.{Fits, Fails}
-use Rattle.wire.specs.declared.reading.Body.the-variants as body
+use Rattle.wire.specs.declared.io_control_completion.IoControlCompletionRead.{IoControlCompletionRead}
+use Rattle.wire.specs.declared.io_control_completion.IoControlCompletionRead.the-variants.{Fits, Fails}
 
 -- n is OutputBufferSize
-unfoldable pub ioControlCompletionWith : List ℕ → ℕ → Reading
+unfoldable pub ioControlCompletionWith : List ℕ → ℕ → IoControlCompletionRead
 ioControlCompletionWith m n =
     field Fails m 28 n
     (ended Fails m (28 + n)
-    (Fits (body.IoControlCompletion (record { request = requestIn (wordAt m 12); result = wordAt m 16; information = wordAt m 20; size = n; output = record { start = 28; size = n } }))))
+    (Fits (record { request = requestIn (wordAt m 12); result = wordAt m 16; information = wordAt m 20; size = n; output = record { start = 28; size = n } })))
 
-unfoldable pub ioControlCompletionOf : List ℕ → Reading
+unfoldable pub ioControlCompletionOf : List ℕ → IoControlCompletionRead
 ioControlCompletionOf m =
     field Fails m 12 4
     (field Fails m 16 4

@@ -5,8 +5,8 @@ use mathlib.Core.List.{List}
 use mathlib.Core.Bool.{Bool, true, false, cond}
 use lib.ListN.{length}
 use lib.Dec.{ltb}
-use Rattle.wire.specs.declared.reading.Fault.{Fault}
-use Rattle.wire.specs.declared.reading.Fault.the-variants.{RanOut, Disagrees, LeftOver}
+use Rattle.wire.specs.declared.layout.Fault.{Fault}
+use Rattle.wire.specs.declared.layout.Fault.the-variants.{RanOut, Disagrees, LeftOver}
 
 -- how many bytes there are from a place on
 abbrev pub left : List ℕ → ℕ → ℕ

@@ -26,7 +26,7 @@ pub mod IoControlCompletion
 pub mod TsUrbResult
 pub mod UrbCompletion
 pub mod UrbCompletionNoData
+pub mod Message
 pub mod Reading
-pub mod Values
 pub mod Payload
 pub mod Sizes

@@ -4,28 +4,25 @@ use mathlib.Core.Path.{_≡_}
 use mathlib.Core.List.{List}
 use lib.ListN.{length}
 use Rattle.wire.specs.Words.{byteAt}
-use Rattle.wire.specs.declared.reading.Part.{Part}
-use Rattle.wire.specs.declared.reading.Body.{Body}
-use Rattle.wire.specs.declared.reading.Body.the-variants.{CapabilityRequest, CapabilityResponse, ChannelCreated, AddVirtualChannel, AddDevice, CancelRequest, RegisterRequestCallback, IoControl, TransferInRequest, TransferOutRequest, RetractDevice, IoControlCompletion, UrbCompletion, UrbCompletionNoData}
+use Rattle.wire.specs.Message.{emptyPart}
+use Rattle.wire.specs.declared.layout.Part.{Part}
+use Rattle.wire.specs.declared.message.Asked.{Asked}
+use Rattle.wire.specs.declared.message.Asked.the-variants.{Fails, Value, Step, Device, Callback, IoControl, TransferIn, TransferOut, Cancel, Retract, IoCompletion, UrbCompletion, UrbCompletionNoData}
 
-abbrev pub emptyPart : Part
-emptyPart = record { start = 0; size = 0 }
-
-abbrev pub payloadPart : Body → Part
-payloadPart (CapabilityRequest b) = emptyPart
-payloadPart (CapabilityResponse b) = emptyPart
-payloadPart (ChannelCreated b) = emptyPart
-payloadPart AddVirtualChannel = emptyPart
-payloadPart (AddDevice b) = emptyPart
-payloadPart (CancelRequest b) = emptyPart
-payloadPart (RegisterRequestCallback b) = emptyPart
-payloadPart (IoControl b) = b .input
-payloadPart (TransferInRequest b) = emptyPart
-payloadPart (TransferOutRequest b) = b .output
-payloadPart (RetractDevice b) = emptyPart
-payloadPart (IoControlCompletion b) = b .output
-payloadPart (UrbCompletion b) = b .output
-payloadPart (UrbCompletionNoData b) = emptyPart
+abbrev pub payloadPart : Asked → Part
+payloadPart (Fails fault) = emptyPart
+payloadPart Value = emptyPart
+payloadPart Step = emptyPart
+payloadPart (Device id ms) = emptyPart
+payloadPart (Callback known) = emptyPart
+payloadPart (IoControl r) = r .payload
+payloadPart (TransferIn r) = r .payload
+payloadPart (TransferOut r) = r .payload
+payloadPart (Cancel id) = emptyPart
+payloadPart Retract = emptyPart
+payloadPart (IoCompletion c) = c .payload
+payloadPart (UrbCompletion c) = c .payload
+payloadPart (UrbCompletionNoData c) = c .payload
 
 -- two messages of one length that differ in no byte outside a part
 abbrev pub AgreeOutside : Part → List ℕ → List ℕ → Type 0

@@ -9,19 +9,18 @@ use Rattle.wire.specs.Layout.{field, ended}
 use Rattle.wire.specs.declared.ids.Known.{Known}
 use Rattle.wire.specs.declared.ids.Known.the-variants.{Nothing, Is}
 use Rattle.wire.specs.declared.register_request_callback.RegisterRequestCallback.{RegisterRequestCallback}
-use Rattle.wire.specs.declared.reading.Reading.{Reading}
-use Rattle.wire.specs.declared.reading.Reading.the-variants.{Fits, Fails}
-use Rattle.wire.specs.declared.reading.Body.the-variants as body
+use Rattle.wire.specs.declared.register_request_callback.RegisterRequestCallbackRead.{RegisterRequestCallbackRead}
+use Rattle.wire.specs.declared.register_request_callback.RegisterRequestCallbackRead.the-variants.{Fits, Fails}
 
-unfoldable pub registerRequestCallbackOf : List ℕ → Reading
+unfoldable pub registerRequestCallbackOf : List ℕ → RegisterRequestCallbackRead
 registerRequestCallbackOf m =
     field Fails m 12 4
     (cond (eqb (wordAt m 12) 0)
     (ended Fails m 16
-    (Fits (body.RegisterRequestCallback (record { count = wordAt m 12; callback = Nothing; mask = 0 }))))
+    (Fits (record { count = wordAt m 12; callback = Nothing; mask = 0 })))
     (field Fails m 16 4
     (ended Fails m 20
-    (Fits (body.RegisterRequestCallback (record { count = wordAt m 12; callback = Is (interfaceIn (wordAt m 16)); mask = maskIn (wordAt m 16) }))))))
+    (Fits (record { count = wordAt m 12; callback = Is (interfaceIn (wordAt m 16)); mask = maskIn (wordAt m 16) })))))
 
 -- an interface that is given is none of 0 to 3
 abbrev pub givenAllowed : Known → Bool

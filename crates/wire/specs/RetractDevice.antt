@@ -6,15 +6,14 @@ use lib.Dec.{eqb}
 use Rattle.wire.specs.Words.{wordAt}
 use Rattle.wire.specs.Layout.{field, ended}
 use Rattle.wire.specs.declared.retract_device.RetractDevice.{RetractDevice}
-use Rattle.wire.specs.declared.reading.Reading.{Reading}
-use Rattle.wire.specs.declared.reading.Reading.the-variants.{Fits, Fails}
-use Rattle.wire.specs.declared.reading.Body.the-variants as body
+use Rattle.wire.specs.declared.retract_device.RetractDeviceRead.{RetractDeviceRead}
+use Rattle.wire.specs.declared.retract_device.RetractDeviceRead.the-variants.{Fits, Fails}
 
-unfoldable pub retractDeviceOf : List ℕ → Reading
+unfoldable pub retractDeviceOf : List ℕ → RetractDeviceRead
 retractDeviceOf m =
     field Fails m 12 4
     (ended Fails m 16
-    (Fits (body.RetractDevice (record { reason = wordAt m 12 }))))
+    (Fits (record { reason = wordAt m 12 })))
 
 abbrev pub retractDeviceAllowed : RetractDevice → Bool
 retractDeviceAllowed b = eqb (b .reason) 1

@@ -2,32 +2,31 @@
 use Prim.Native.Nat.{ℕ, _+_, _*_, _≤_}
 use mathlib.Core.Bool.{cond}
 use lib.Dec.{eqb}
-use Rattle.wire.specs.declared.reading.Part.{Part}
+use Rattle.wire.specs.declared.layout.Part.{Part}
 use Rattle.wire.specs.declared.text.Text.{Text}
 use Rattle.wire.specs.declared.ts_urb.Urb.{Urb}
 use Rattle.wire.specs.declared.ts_urb.Urb.the-variants.{SelectConfiguration, SelectInterface, GetCurrentFrameNumber, PipeRequest, BulkOrInterruptTransfer, ControlTransfer, IsochTransfer, Unknown}
-use Rattle.wire.specs.declared.reading.Body.{Body}
-use Rattle.wire.specs.declared.reading.Body.the-variants.{CapabilityRequest, CapabilityResponse, ChannelCreated, AddVirtualChannel, AddDevice, CancelRequest, RegisterRequestCallback, IoControl, TransferInRequest, TransferOutRequest, RetractDevice, IoControlCompletion, UrbCompletion, UrbCompletionNoData}
+use Rattle.wire.specs.Reading.{Body, capabilityRequestBody, capabilityResponseBody, channelCreatedBody, addVirtualChannelBody, addDeviceBody, cancelRequestBody, registerRequestCallbackBody, ioControlBody, transferInRequestBody, transferOutRequestBody, retractDeviceBody, ioControlCompletionBody, urbCompletionBody, urbCompletionNoDataBody}
 
 abbrev pub textSize : Text → ℕ
 textSize t = 4 + 2 * t .count
 
 -- the length of a message with a body: its header and its fields
 abbrev pub lengthOf : Body → ℕ
-lengthOf (CapabilityRequest b) = 16
-lengthOf (CapabilityResponse b) = 16
-lengthOf (ChannelCreated b) = 24
-lengthOf AddVirtualChannel = 12
-lengthOf (AddDevice b) = 20 + textSize (b .instance) + textSize (b .hardware) + textSize (b .compatible) + textSize (b .container) + 28
-lengthOf (CancelRequest b) = 16
-lengthOf (RegisterRequestCallback b) = cond (eqb (b .count) 0) 16 20
-lengthOf (IoControl b) = 20 + b .input .size + 8
-lengthOf (TransferInRequest b) = 16 + b .urb .size + 4
-lengthOf (TransferOutRequest b) = 16 + b .urb .size + 4 + b .size
-lengthOf (RetractDevice b) = 16
-lengthOf (IoControlCompletion b) = 28 + b .size
-lengthOf (UrbCompletion b) = 20 + b .urb .size + 8 + b .size
-lengthOf (UrbCompletionNoData b) = 20 + b .urb .size + 8
+lengthOf (capabilityRequestBody b) = 16
+lengthOf (capabilityResponseBody b) = 16
+lengthOf (channelCreatedBody b) = 24
+lengthOf addVirtualChannelBody = 12
+lengthOf (addDeviceBody b) = 20 + textSize (b .instance) + textSize (b .hardware) + textSize (b .compatible) + textSize (b .container) + 28
+lengthOf (cancelRequestBody b) = 16
+lengthOf (registerRequestCallbackBody b) = cond (eqb (b .count) 0) 16 20
+lengthOf (ioControlBody b) = 20 + b .input .size + 8
+lengthOf (transferInRequestBody b) = 16 + b .urb .size + 4
+lengthOf (transferOutRequestBody b) = 16 + b .urb .size + 4 + b .size
+lengthOf (retractDeviceBody b) = 16
+lengthOf (ioControlCompletionBody b) = 28 + b .size
+lengthOf (urbCompletionBody b) = 20 + b .urb .size + 8 + b .size
+lengthOf (urbCompletionNoDataBody b) = 20 + b .urb .size + 8
 
 -- a part lies within n bytes
 abbrev pub Within : ℕ → Part → Type 0
@@ -45,17 +44,17 @@ UrbWithin n Unknown = Unit {0}
 
 -- every part of a body lies within n bytes
 abbrev pub PartsWithin : ℕ → Body → Type 0
-PartsWithin n (CapabilityRequest b) = Unit {0}
-PartsWithin n (CapabilityResponse b) = Unit {0}
-PartsWithin n (ChannelCreated b) = Unit {0}
-PartsWithin n AddVirtualChannel = Unit {0}
-PartsWithin n (AddDevice b) = Within n (b .instance .units) × Within n (b .hardware .units) × Within n (b .compatible .units) × Within n (b .container .units)
-PartsWithin n (CancelRequest b) = Unit {0}
-PartsWithin n (RegisterRequestCallback b) = Unit {0}
-PartsWithin n (IoControl b) = Within n (b .input)
-PartsWithin n (TransferInRequest b) = UrbWithin n (b .urb .urb)
-PartsWithin n (TransferOutRequest b) = UrbWithin n (b .urb .urb) × Within n (b .output)
-PartsWithin n (RetractDevice b) = Unit {0}
-PartsWithin n (IoControlCompletion b) = Within n (b .output)
-PartsWithin n (UrbCompletion b) = Within n (b .urb .rest) × Within n (b .output)
-PartsWithin n (UrbCompletionNoData b) = Within n (b .urb .rest)
+PartsWithin n (capabilityRequestBody b) = Unit {0}
+PartsWithin n (capabilityResponseBody b) = Unit {0}
+PartsWithin n (channelCreatedBody b) = Unit {0}
+PartsWithin n addVirtualChannelBody = Unit {0}
+PartsWithin n (addDeviceBody b) = Within n (b .instance .units) × Within n (b .hardware .units) × Within n (b .compatible .units) × Within n (b .container .units)
+PartsWithin n (cancelRequestBody b) = Unit {0}
+PartsWithin n (registerRequestCallbackBody b) = Unit {0}
+PartsWithin n (ioControlBody b) = Within n (b .input)
+PartsWithin n (transferInRequestBody b) = UrbWithin n (b .urb .urb)
+PartsWithin n (transferOutRequestBody b) = UrbWithin n (b .urb .urb) × Within n (b .output)
+PartsWithin n (retractDeviceBody b) = Unit {0}
+PartsWithin n (ioControlCompletionBody b) = Within n (b .output)
+PartsWithin n (urbCompletionBody b) = Within n (b .urb .rest) × Within n (b .output)
+PartsWithin n (urbCompletionNoDataBody b) = Within n (b .urb .rest)

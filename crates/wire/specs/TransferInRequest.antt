@@ -10,19 +10,18 @@ use Rattle.wire.specs.declared.transfer.Transfer.{Transfer}
 use Rattle.wire.specs.declared.transfer.TransferRead.{TransferRead}
 use Rattle.wire.specs.declared.transfer.TransferRead.the-variants as transfer
 use Rattle.wire.specs.declared.transfer_in_request.TransferInRequest.{TransferInRequest}
-use Rattle.wire.specs.declared.reading.Reading.{Reading}
-use Rattle.wire.specs.declared.reading.Reading.the-variants.{Fits, Fails}
-use Rattle.wire.specs.declared.reading.Body.the-variants as body
+use Rattle.wire.specs.declared.transfer_in_request.TransferInRequestRead.{TransferInRequestRead}
+use Rattle.wire.specs.declared.transfer_in_request.TransferInRequestRead.the-variants.{Fits, Fails}
 
 -- left-over bytes come last, those inside the TsUrb first
-abbrev pub incomingFrom : List ℕ → TransferRead → Reading
+abbrev pub incomingFrom : List ℕ → TransferRead → TransferInRequestRead
 incomingFrom m (transfer.Fits t) =
     filled Fails (t .last) (t .end)
     (ended Fails m (t .after)
-    (Fits (body.TransferInRequest (record { urb = t .urb; size = t .size }))))
+    (Fits (record { urb = t .urb; size = t .size })))
 incomingFrom m (transfer.Fails fault) = Fails fault
 
-unfoldable pub transferInRequestOf : List ℕ → Reading
+unfoldable pub transferInRequestOf : List ℕ → TransferInRequestRead
 transferInRequestOf m = incomingFrom m (transferOf m)
 
 -- no NoAck; a function and counts that 01 allows; OutputBufferSize 0 where the function says so

@@ -9,21 +9,20 @@ use Rattle.wire.specs.declared.ts_urb_result.Completion.{Completion}
 use Rattle.wire.specs.declared.ts_urb_result.CompletionRead.{CompletionRead}
 use Rattle.wire.specs.declared.ts_urb_result.CompletionRead.the-variants as completion
 use Rattle.wire.specs.declared.urb_completion.UrbCompletion.{UrbCompletion}
-use Rattle.wire.specs.declared.reading.Reading.{Reading}
-use Rattle.wire.specs.declared.reading.Reading.the-variants.{Fits, Fails}
-use Rattle.wire.specs.declared.reading.Body.the-variants as body
+use Rattle.wire.specs.declared.urb_completion.UrbCompletionRead.{UrbCompletionRead}
+use Rattle.wire.specs.declared.urb_completion.UrbCompletionRead.the-variants.{Fits, Fails}
 
-unfoldable pub withOutputOf : List ℕ → Completion → Reading
+unfoldable pub withOutputOf : List ℕ → Completion → UrbCompletionRead
 withOutputOf m c =
     field Fails m (c .after) (c .size)
     (ended Fails m (c .after + c .size)
-    (Fits (body.UrbCompletion (record { request = c .request; urb = c .urb; result = c .result; size = c .size; output = record { start = c .after; size = c .size } }))))
+    (Fits (record { request = c .request; urb = c .urb; result = c .result; size = c .size; output = record { start = c .after; size = c .size } })))
 
-abbrev pub withOutputFrom : List ℕ → CompletionRead → Reading
+abbrev pub withOutputFrom : List ℕ → CompletionRead → UrbCompletionRead
 withOutputFrom m (completion.Fits c) = withOutputOf m c
 withOutputFrom m (completion.Fails fault) = Fails fault
 
-unfoldable pub urbCompletionOf : List ℕ → Reading
+unfoldable pub urbCompletionOf : List ℕ → UrbCompletionRead
 urbCompletionOf m = withOutputFrom m (completionOf m)
 
 -- OutputBufferSize 0 gives 8

@@ -5,13 +5,12 @@ use Rattle.wire.specs.Layout.{ended}
 use Rattle.wire.specs.TsUrbResult.{completionOf}
 use Rattle.wire.specs.declared.ts_urb_result.CompletionRead.{CompletionRead}
 use Rattle.wire.specs.declared.ts_urb_result.CompletionRead.the-variants as completion
-use Rattle.wire.specs.declared.reading.Reading.{Reading}
-use Rattle.wire.specs.declared.reading.Reading.the-variants.{Fits, Fails}
-use Rattle.wire.specs.declared.reading.Body.the-variants as body
+use Rattle.wire.specs.declared.urb_completion_no_data.UrbCompletionNoDataRead.{UrbCompletionNoDataRead}
+use Rattle.wire.specs.declared.urb_completion_no_data.UrbCompletionNoDataRead.the-variants.{Fits, Fails}
 
-abbrev pub noDataFrom : List ℕ → CompletionRead → Reading
-noDataFrom m (completion.Fits c) = ended Fails m (c .after) (Fits (body.UrbCompletionNoData (record { request = c .request; urb = c .urb; result = c .result; size = c .size })))
+abbrev pub noDataFrom : List ℕ → CompletionRead → UrbCompletionNoDataRead
+noDataFrom m (completion.Fits c) = ended Fails m (c .after) (Fits (record { request = c .request; urb = c .urb; result = c .result; size = c .size }))
 noDataFrom m (completion.Fails fault) = Fails fault
 
-unfoldable pub urbCompletionNoDataOf : List ℕ → Reading
+unfoldable pub urbCompletionNoDataOf : List ℕ → UrbCompletionNoDataRead
 urbCompletionNoDataOf m = noDataFrom m (completionOf m)

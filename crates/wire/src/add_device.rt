@@ -14,9 +14,8 @@ use crate::header::Header;
 use crate::ids::InterfaceId;
 use crate::kind::Side;
 use crate::kind::calls;
-use crate::reading::Body;
-use crate::reading::Fault;
-use crate::reading::Reading;
+use crate::layout::Fault;
+use crate::message::Asked;
 use crate::text;
 use crate::text::Text;
 use crate::text::TextRead;
@@ -27,6 +26,7 @@ ghost use Prim.Native.Nat.{_≤_};
 ghost use lib.ListN.{length};
 ghost use Rattle.wire.specs.declared.ids.Known.the-variants.{Nothing};
 ghost use Rattle.wire.specs.Kinds.{fits, addDevice};
+ghost use Rattle.wire.specs.Message.{addDeviceAsked};
 ghost use Rattle.wire.specs.AddDevice.{addDeviceOf, pairOf, deviceOf, textPairAllowed, addDeviceAllowed};
 
 // A text and the list or text behind it: the instance id with the hardware ids, or the compatible ids with the container id.
@@ -45,6 +45,11 @@ pub struct AddDevice {
     pub compatible: Text,
     pub container: Text,
     pub capabilities: DeviceCapabilities,
+}
+
+pub enum AddDeviceRead {
+    Fits(AddDevice),
+    Fails(Fault),
 }
 
 impl AddDevice {
@@ -74,21 +79,21 @@ pub(crate) fn fits(h: Header, side: u8) -> bool
     )
 }
 
-pub(crate) fn read(m: &[u8]) -> Reading
+pub(crate) fn read(m: &[u8]) -> AddDeviceRead
     ensures { λ r. ⌜ r ≡ addDeviceOf (now (m .entry)) ⌝ }
 {
     if rest(m, 12) < 4 {
-        return Reading::Fails(Fault::RanOut(12));
+        return AddDeviceRead::Fails(Fault::RanOut(12));
     }
     if rest(m, 16) < 4 {
-        return Reading::Fails(Fault::RanOut(16));
+        return AddDeviceRead::Fails(Fault::RanOut(16));
     }
     match pair(m, 20) {
         PairRead::Fits(names, middle) => match pair(m, middle) {
             PairRead::Fits(classes, end) => device(m, names, classes, end),
-            PairRead::Fails(fault) => Reading::Fails(fault),
+            PairRead::Fails(fault) => AddDeviceRead::Fails(fault),
         },
-        PairRead::Fails(fault) => Reading::Fails(fault),
+        PairRead::Fails(fault) => AddDeviceRead::Fails(fault),
     }
 }
 
@@ -111,22 +116,22 @@ fn pair(m: &[u8], at: usize) -> PairRead
 }
 
 // The device, whose texts end at `at`.
-fn device(m: &[u8], names: TextPair, classes: TextPair, at: usize) -> Reading
+fn device(m: &[u8], names: TextPair, classes: TextPair, at: usize) -> AddDeviceRead
     requires { ⌜ 20 ≤ length (now m) ⌝ }
     ensures { λ r. ⌜ r ≡ deviceOf (now (m .entry)) names classes at ⌝ }
 {
     match device_capabilities::read(m, at) {
-        CapabilitiesRead::Fails(fault) => Reading::Fails(fault),
+        CapabilitiesRead::Fails(fault) => AddDeviceRead::Fails(fault),
         CapabilitiesRead::Fits(capabilities, end) => {
             if 0 < rest(m, end) {
-                return Reading::Fails(Fault::LeftOver(end));
+                return AddDeviceRead::Fails(Fault::LeftOver(end));
             }
             let word = u32_at(m, 16);
             let instance = names.first;
             let hardware = names.second;
             let compatible = classes.first;
             let container = classes.second;
-            Reading::Fits(Body::AddDevice(AddDevice {
+            AddDeviceRead::Fits(AddDevice {
                 count: u32_at(m, 12),
                 device: InterfaceId::of_word(word),
                 mask: InterfaceId::mask_of(word),
@@ -135,7 +140,7 @@ fn device(m: &[u8], names: TextPair, classes: TextPair, at: usize) -> Reading
                 compatible: compatible,
                 container: container,
                 capabilities: capabilities,
-            }))
+            })
         }
     }
 }
@@ -170,4 +175,20 @@ fn texts_allowed(single: Text, list: Text) -> bool
         return false;
     }
     text::list_allowed(list)
+}
+
+pub(crate) fn ask(m: &[u8]) -> Asked
+    ensures { λ r. ⌜ r ≡ addDeviceAsked (addDeviceOf (now (m .entry))) ⌝ }
+{
+    match read(m) {
+        AddDeviceRead::Fits(b) => {
+            if !allowed(b) {
+                return Asked::Value;
+            }
+            let device = b.device;
+            let capabilities = b.capabilities;
+            Asked::Device(device, capabilities.noack)
+        }
+        AddDeviceRead::Fails(fault) => Asked::Fails(fault),
+    }
 }

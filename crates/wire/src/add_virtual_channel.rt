@@ -2,16 +2,21 @@
 use crate::header::Header;
 use crate::kind::Side;
 use crate::kind::calls;
-use crate::reading::Body;
-use crate::reading::Fault;
-use crate::reading::Reading;
+use crate::layout::Fault;
+use crate::message::Asked;
 use crate::words::rest;
 ghost use mathlib.Core.Path.{_≡_};
 ghost use Rattle.wire.specs.declared.ids.Known.the-variants.{Nothing};
 ghost use Rattle.wire.specs.Kinds.{fits, addVirtualChannel};
+ghost use Rattle.wire.specs.Message.{addVirtualChannelAsked};
 ghost use Rattle.wire.specs.AddVirtualChannel.{addVirtualChannelOf};
 
 pub struct AddVirtualChannel {}
+
+pub enum AddVirtualChannelRead {
+    Fits,
+    Fails(Fault),
+}
 
 impl AddVirtualChannel {
     pub const MASK: u32 = 1;
@@ -34,11 +39,20 @@ pub(crate) fn fits(h: Header, side: u8) -> bool
     )
 }
 
-pub(crate) fn read(m: &[u8]) -> Reading
+pub(crate) fn read(m: &[u8]) -> AddVirtualChannelRead
     ensures { λ r. ⌜ r ≡ addVirtualChannelOf (now (m .entry)) ⌝ }
 {
     if 0 < rest(m, 12) {
-        return Reading::Fails(Fault::LeftOver(12));
+        return AddVirtualChannelRead::Fails(Fault::LeftOver(12));
     }
-    Reading::Fits(Body::AddVirtualChannel)
+    AddVirtualChannelRead::Fits
+}
+
+pub(crate) fn ask(m: &[u8]) -> Asked
+    ensures { λ r. ⌜ r ≡ addVirtualChannelAsked (addVirtualChannelOf (now (m .entry))) ⌝ }
+{
+    match read(m) {
+        AddVirtualChannelRead::Fits => Asked::Step,
+        AddVirtualChannelRead::Fails(fault) => Asked::Fails(fault),
+    }
 }

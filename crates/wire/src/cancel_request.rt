@@ -6,18 +6,23 @@ use crate::ids::Known;
 use crate::ids::RequestId;
 use crate::kind::Side;
 use crate::kind::calls_known;
-use crate::reading::Body;
-use crate::reading::Fault;
-use crate::reading::Reading;
+use crate::layout::Fault;
+use crate::message::Asked;
 use crate::words::rest;
 use crate::words::u32_at;
 ghost use mathlib.Core.Path.{_≡_};
 ghost use Rattle.wire.specs.declared.ids.Known.the-variants.{Nothing};
 ghost use Rattle.wire.specs.Kinds.{fits, cancelRequest};
+ghost use Rattle.wire.specs.Message.{cancelRequestAsked};
 ghost use Rattle.wire.specs.CancelRequest.{cancelRequestOf};
 
 pub struct CancelRequest {
     pub request: RequestId,
+}
+
+pub enum CancelRequestRead {
+    Fits(CancelRequest),
+    Fails(Fault),
 }
 
 impl CancelRequest {
@@ -39,16 +44,28 @@ pub(crate) fn fits(h: Header, side: u8, device: Known) -> bool
     )
 }
 
-pub(crate) fn read(m: &[u8]) -> Reading
+pub(crate) fn read(m: &[u8]) -> CancelRequestRead
     ensures { λ r. ⌜ r ≡ cancelRequestOf (now (m .entry)) ⌝ }
 {
     if rest(m, 12) < 4 {
-        return Reading::Fails(Fault::RanOut(12));
+        return CancelRequestRead::Fails(Fault::RanOut(12));
     }
     if 0 < rest(m, 16) {
-        return Reading::Fails(Fault::LeftOver(16));
+        return CancelRequestRead::Fails(Fault::LeftOver(16));
     }
-    Reading::Fits(Body::CancelRequest(CancelRequest {
+    CancelRequestRead::Fits(CancelRequest {
         request: RequestId::of_word(u32_at(m, 12)),
-    }))
+    })
+}
+
+pub(crate) fn ask(m: &[u8]) -> Asked
+    ensures { λ r. ⌜ r ≡ cancelRequestAsked (cancelRequestOf (now (m .entry))) ⌝ }
+{
+    match read(m) {
+        CancelRequestRead::Fits(b) => {
+            let request = b.request;
+            Asked::Cancel(request)
+        }
+        CancelRequestRead::Fails(fault) => Asked::Fails(fault),
+    }
 }

@@ -4,18 +4,23 @@
 use crate::header::Header;
 use crate::kind::Side;
 use crate::kind::calls;
-use crate::reading::Body;
-use crate::reading::Fault;
-use crate::reading::Reading;
+use crate::layout::Fault;
+use crate::message::Asked;
 use crate::words::rest;
 use crate::words::u32_at;
 ghost use mathlib.Core.Path.{_≡_};
 ghost use Rattle.wire.specs.declared.ids.Known.the-variants.{Nothing};
 ghost use Rattle.wire.specs.Kinds.{fits, capabilityRequest};
+ghost use Rattle.wire.specs.Message.{capabilityRequestAsked};
 ghost use Rattle.wire.specs.CapabilityRequest.{capabilityRequestOf, capabilityRequestAllowed};
 
 pub struct CapabilityRequest {
     pub capability: u32,
+}
+
+pub enum CapabilityRequestRead {
+    Fits(CapabilityRequest),
+    Fails(Fault),
 }
 
 impl CapabilityRequest {
@@ -39,22 +44,36 @@ pub(crate) fn fits(h: Header, side: u8) -> bool
     )
 }
 
-pub(crate) fn read(m: &[u8]) -> Reading
+pub(crate) fn read(m: &[u8]) -> CapabilityRequestRead
     ensures { λ r. ⌜ r ≡ capabilityRequestOf (now (m .entry)) ⌝ }
 {
     if rest(m, 12) < 4 {
-        return Reading::Fails(Fault::RanOut(12));
+        return CapabilityRequestRead::Fails(Fault::RanOut(12));
     }
     if 0 < rest(m, 16) {
-        return Reading::Fails(Fault::LeftOver(16));
+        return CapabilityRequestRead::Fails(Fault::LeftOver(16));
     }
-    Reading::Fits(Body::CapabilityRequest(CapabilityRequest {
+    CapabilityRequestRead::Fits(CapabilityRequest {
         capability: u32_at(m, 12),
-    }))
+    })
 }
 
 pub(crate) fn allowed(b: CapabilityRequest) -> bool
     ensures { λ r. ⌜ r ≡ capabilityRequestAllowed b ⌝ }
 {
     b.capability == 1
+}
+
+pub(crate) fn ask(m: &[u8]) -> Asked
+    ensures { λ r. ⌜ r ≡ capabilityRequestAsked (capabilityRequestOf (now (m .entry))) ⌝ }
+{
+    match read(m) {
+        CapabilityRequestRead::Fits(b) => {
+            if !allowed(b) {
+                return Asked::Value;
+            }
+            Asked::Step
+        }
+        CapabilityRequestRead::Fails(fault) => Asked::Fails(fault),
+    }
 }

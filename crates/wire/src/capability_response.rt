@@ -5,19 +5,24 @@
 use crate::header::Header;
 use crate::kind::Side;
 use crate::kind::goes_to;
-use crate::reading::Body;
-use crate::reading::Fault;
-use crate::reading::Reading;
+use crate::layout::Fault;
+use crate::message::Asked;
 use crate::words::rest;
 use crate::words::u32_at;
 ghost use mathlib.Core.Path.{_≡_};
 ghost use Rattle.wire.specs.declared.ids.Known.the-variants.{Nothing};
 ghost use Rattle.wire.specs.Kinds.{fits, capabilityResponse};
+ghost use Rattle.wire.specs.Message.{capabilityResponseAsked};
 ghost use Rattle.wire.specs.CapabilityResponse.{capabilityResponseOf, capabilityResponseAllowed};
 
 pub struct CapabilityResponse {
     pub capability: u32,
     pub result: u32,
+}
+
+pub enum CapabilityResponseRead {
+    Fits(CapabilityResponse),
+    Fails(Fault),
 }
 
 impl CapabilityResponse {
@@ -38,22 +43,22 @@ pub(crate) fn fits(h: Header, side: u8) -> bool
     )
 }
 
-pub(crate) fn read(m: &[u8]) -> Reading
+pub(crate) fn read(m: &[u8]) -> CapabilityResponseRead
     ensures { λ r. ⌜ r ≡ capabilityResponseOf (now (m .entry)) ⌝ }
 {
     if rest(m, 8) < 4 {
-        return Reading::Fails(Fault::RanOut(8));
+        return CapabilityResponseRead::Fails(Fault::RanOut(8));
     }
     if rest(m, 12) < 4 {
-        return Reading::Fails(Fault::RanOut(12));
+        return CapabilityResponseRead::Fails(Fault::RanOut(12));
     }
     if 0 < rest(m, 16) {
-        return Reading::Fails(Fault::LeftOver(16));
+        return CapabilityResponseRead::Fails(Fault::LeftOver(16));
     }
-    Reading::Fits(Body::CapabilityResponse(CapabilityResponse {
+    CapabilityResponseRead::Fits(CapabilityResponse {
         capability: u32_at(m, 8),
         result: u32_at(m, 12),
-    }))
+    })
 }
 
 pub(crate) fn allowed(b: CapabilityResponse) -> bool
@@ -63,4 +68,18 @@ pub(crate) fn allowed(b: CapabilityResponse) -> bool
         return false;
     }
     b.result < 0x8000_0000
+}
+
+pub(crate) fn ask(m: &[u8]) -> Asked
+    ensures { λ r. ⌜ r ≡ capabilityResponseAsked (capabilityResponseOf (now (m .entry))) ⌝ }
+{
+    match read(m) {
+        CapabilityResponseRead::Fits(b) => {
+            if !allowed(b) {
+                return Asked::Value;
+            }
+            Asked::Step
+        }
+        CapabilityResponseRead::Fails(fault) => Asked::Fails(fault),
+    }
 }

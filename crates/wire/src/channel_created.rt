@@ -6,20 +6,25 @@
 use crate::header::Header;
 use crate::kind::Side;
 use crate::kind::calls;
-use crate::reading::Body;
-use crate::reading::Fault;
-use crate::reading::Reading;
+use crate::layout::Fault;
+use crate::message::Asked;
 use crate::words::rest;
 use crate::words::u32_at;
 ghost use mathlib.Core.Path.{_≡_};
 ghost use Rattle.wire.specs.declared.ids.Known.the-variants.{Nothing};
 ghost use Rattle.wire.specs.Kinds.{fits, channelCreatedByServer, channelCreatedByClient};
+ghost use Rattle.wire.specs.Message.{channelCreatedAsked};
 ghost use Rattle.wire.specs.ChannelCreated.{channelCreatedOf, channelCreatedAllowed};
 
 pub struct ChannelCreated {
     pub major: u32,
     pub minor: u32,
     pub capabilities: u32,
+}
+
+pub enum ChannelCreatedRead {
+    Fits(ChannelCreated),
+    Fails(Fault),
 }
 
 impl ChannelCreated {
@@ -58,26 +63,26 @@ pub(crate) fn fits_by_client(h: Header, side: u8) -> bool
     )
 }
 
-pub(crate) fn read(m: &[u8]) -> Reading
+pub(crate) fn read(m: &[u8]) -> ChannelCreatedRead
     ensures { λ r. ⌜ r ≡ channelCreatedOf (now (m .entry)) ⌝ }
 {
     if rest(m, 12) < 4 {
-        return Reading::Fails(Fault::RanOut(12));
+        return ChannelCreatedRead::Fails(Fault::RanOut(12));
     }
     if rest(m, 16) < 4 {
-        return Reading::Fails(Fault::RanOut(16));
+        return ChannelCreatedRead::Fails(Fault::RanOut(16));
     }
     if rest(m, 20) < 4 {
-        return Reading::Fails(Fault::RanOut(20));
+        return ChannelCreatedRead::Fails(Fault::RanOut(20));
     }
     if 0 < rest(m, 24) {
-        return Reading::Fails(Fault::LeftOver(24));
+        return ChannelCreatedRead::Fails(Fault::LeftOver(24));
     }
-    Reading::Fits(Body::ChannelCreated(ChannelCreated {
+    ChannelCreatedRead::Fits(ChannelCreated {
         major: u32_at(m, 12),
         minor: u32_at(m, 16),
         capabilities: u32_at(m, 20),
-    }))
+    })
 }
 
 pub(crate) fn allowed(b: ChannelCreated) -> bool
@@ -90,4 +95,18 @@ pub(crate) fn allowed(b: ChannelCreated) -> bool
         return false;
     }
     b.capabilities == 0
+}
+
+pub(crate) fn ask(m: &[u8]) -> Asked
+    ensures { λ r. ⌜ r ≡ channelCreatedAsked (channelCreatedOf (now (m .entry))) ⌝ }
+{
+    match read(m) {
+        ChannelCreatedRead::Fits(b) => {
+            if !allowed(b) {
+                return Asked::Value;
+            }
+            Asked::Step
+        }
+        ChannelCreatedRead::Fails(fault) => Asked::Fails(fault),
+    }
 }

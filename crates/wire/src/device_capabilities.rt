@@ -7,7 +7,7 @@
 //   16  HcdCapabilities                      4  0
 //   20  DeviceIsHighSpeed                    4  0, 1; 0 where the bus version is 0
 //   24  NoAckIsochWriteJitterBufferSizeInMs  4  0, 10 to 512
-use crate::reading::Fault;
+use crate::layout::Fault;
 use crate::words::rest;
 use crate::words::u32_at;
 ghost use mathlib.Core.Path.{_≡_};

@@ -4,10 +4,11 @@ use crate::ids::Known;
 use crate::io_control;
 use crate::kind::Side;
 use crate::kind::calls_known;
-use crate::reading::Reading;
+use crate::message::Asked;
 ghost use mathlib.Core.Path.{_≡_};
 ghost use Rattle.wire.specs.declared.ids.Known.the-variants.{Nothing};
 ghost use Rattle.wire.specs.Kinds.{fits, internalIoControl};
+ghost use Rattle.wire.specs.Message.{ioControlAsked};
 ghost use Rattle.wire.specs.IoControl.{ioControlOf};
 
 pub struct InternalIoControl {}
@@ -31,8 +32,8 @@ pub(crate) fn fits(h: Header, side: u8, device: Known) -> bool
     )
 }
 
-pub(crate) fn read(m: &[u8]) -> Reading
-    ensures { λ r. ⌜ r ≡ ioControlOf (now (m .entry)) ⌝ }
+pub(crate) fn ask(m: &[u8]) -> Asked
+    ensures { λ r. ⌜ r ≡ ioControlAsked (ioControlOf (now (m .entry))) ⌝ }
 {
-    io_control::read(m)
+    io_control::ask(m)
 }

@@ -10,15 +10,16 @@ use crate::ids::Known;
 use crate::ids::RequestId;
 use crate::kind::Side;
 use crate::kind::calls_known;
-use crate::reading::Body;
-use crate::reading::Fault;
-use crate::reading::Part;
-use crate::reading::Reading;
+use crate::layout::Fault;
+use crate::layout::Part;
+use crate::message::Asked;
+use crate::message::Request;
 use crate::words::rest;
 use crate::words::u32_at;
 ghost use mathlib.Core.Path.{_≡_};
 ghost use Rattle.wire.specs.declared.ids.Known.the-variants.{Nothing};
 ghost use Rattle.wire.specs.Kinds.{fits, ioControl};
+ghost use Rattle.wire.specs.Message.{ioControlAsked};
 ghost use Rattle.wire.specs.IoControl.{ioControlOf};
 
 pub struct IoControl {
@@ -26,6 +27,11 @@ pub struct IoControl {
     pub input: Part,
     pub output: u32,
     pub request: RequestId,
+}
+
+pub enum IoControlRead {
+    Fits(IoControl),
+    Fails(Fault),
 }
 
 impl IoControl {
@@ -47,30 +53,30 @@ pub(crate) fn fits(h: Header, side: u8, device: Known) -> bool
     )
 }
 
-pub(crate) fn read(m: &[u8]) -> Reading
+pub(crate) fn read(m: &[u8]) -> IoControlRead
     ensures { λ r. ⌜ r ≡ ioControlOf (now (m .entry)) ⌝ }
 {
     if rest(m, 12) < 4 {
-        return Reading::Fails(Fault::RanOut(12));
+        return IoControlRead::Fails(Fault::RanOut(12));
     }
     if rest(m, 16) < 4 {
-        return Reading::Fails(Fault::RanOut(16));
+        return IoControlRead::Fails(Fault::RanOut(16));
     }
     let size = u32_at(m, 16) as usize;
     if rest(m, 20) < size {
-        return Reading::Fails(Fault::RanOut(20));
+        return IoControlRead::Fails(Fault::RanOut(20));
     }
     let e = 20 + size;
     if rest(m, e) < 4 {
-        return Reading::Fails(Fault::RanOut(e));
+        return IoControlRead::Fails(Fault::RanOut(e));
     }
     if rest(m, e + 4) < 4 {
-        return Reading::Fails(Fault::RanOut(e + 4));
+        return IoControlRead::Fails(Fault::RanOut(e + 4));
     }
     if 0 < rest(m, e + 8) {
-        return Reading::Fails(Fault::LeftOver(e + 8));
+        return IoControlRead::Fails(Fault::LeftOver(e + 8));
     }
-    Reading::Fits(Body::IoControl(IoControl {
+    IoControlRead::Fits(IoControl {
         code: u32_at(m, 12),
         input: Part {
             start: 20,
@@ -78,5 +84,23 @@ pub(crate) fn read(m: &[u8]) -> Reading
         },
         output: u32_at(m, e),
         request: RequestId::of_word(u32_at(m, e + 4)),
-    }))
+    })
+}
+
+pub(crate) fn ask(m: &[u8]) -> Asked
+    ensures { λ r. ⌜ r ≡ ioControlAsked (ioControlOf (now (m .entry))) ⌝ }
+{
+    match read(m) {
+        IoControlRead::Fits(b) => {
+            let request = b.request;
+            let input = b.input;
+            Asked::IoControl(Request {
+                request: request,
+                size: b.output,
+                noack: false,
+                payload: input,
+            })
+        }
+        IoControlRead::Fails(fault) => Asked::Fails(fault),
+    }
 }

@@ -10,15 +10,16 @@ use crate::ids::Known;
 use crate::ids::RequestId;
 use crate::kind::Side;
 use crate::kind::calls_known;
-use crate::reading::Body;
-use crate::reading::Fault;
-use crate::reading::Part;
-use crate::reading::Reading;
+use crate::layout::Fault;
+use crate::layout::Part;
+use crate::message::Asked;
+use crate::message::IoCompleted;
 use crate::words::rest;
 use crate::words::u32_at;
 ghost use mathlib.Core.Path.{_≡_};
 ghost use Rattle.wire.specs.declared.ids.Known.the-variants.{Nothing};
 ghost use Rattle.wire.specs.Kinds.{fits, ioControlCompletion};
+ghost use Rattle.wire.specs.Message.{ioControlCompletionAsked};
 ghost use Rattle.wire.specs.IoControlCompletion.{ioControlCompletionOf};
 
 pub struct IoControlCompletion {
@@ -27,6 +28,11 @@ pub struct IoControlCompletion {
     pub information: u32,
     pub size: u32,
     pub output: Part,
+}
+
+pub enum IoControlCompletionRead {
+    Fits(IoControlCompletion),
+    Fails(Fault),
 }
 
 impl IoControlCompletion {
@@ -48,30 +54,30 @@ pub(crate) fn fits(h: Header, side: u8, callback: Known) -> bool
     )
 }
 
-pub(crate) fn read(m: &[u8]) -> Reading
+pub(crate) fn read(m: &[u8]) -> IoControlCompletionRead
     ensures { λ r. ⌜ r ≡ ioControlCompletionOf (now (m .entry)) ⌝ }
 {
     if rest(m, 12) < 4 {
-        return Reading::Fails(Fault::RanOut(12));
+        return IoControlCompletionRead::Fails(Fault::RanOut(12));
     }
     if rest(m, 16) < 4 {
-        return Reading::Fails(Fault::RanOut(16));
+        return IoControlCompletionRead::Fails(Fault::RanOut(16));
     }
     if rest(m, 20) < 4 {
-        return Reading::Fails(Fault::RanOut(20));
+        return IoControlCompletionRead::Fails(Fault::RanOut(20));
     }
     if rest(m, 24) < 4 {
-        return Reading::Fails(Fault::RanOut(24));
+        return IoControlCompletionRead::Fails(Fault::RanOut(24));
     }
     let size = u32_at(m, 24);
     let e = 28 + size as usize;
     if rest(m, 28) < size as usize {
-        return Reading::Fails(Fault::RanOut(28));
+        return IoControlCompletionRead::Fails(Fault::RanOut(28));
     }
     if 0 < rest(m, e) {
-        return Reading::Fails(Fault::LeftOver(e));
+        return IoControlCompletionRead::Fails(Fault::LeftOver(e));
     }
-    Reading::Fits(Body::IoControlCompletion(IoControlCompletion {
+    IoControlCompletionRead::Fits(IoControlCompletion {
         request: RequestId::of_word(u32_at(m, 12)),
         result: u32_at(m, 16),
         information: u32_at(m, 20),
@@ -80,5 +86,24 @@ pub(crate) fn read(m: &[u8]) -> Reading
             start: 28,
             size: size as usize,
         },
-    }))
+    })
+}
+
+pub(crate) fn ask(m: &[u8]) -> Asked
+    ensures { λ r. ⌜ r ≡ ioControlCompletionAsked (ioControlCompletionOf (now (m .entry))) ⌝ }
+{
+    match read(m) {
+        IoControlCompletionRead::Fits(b) => {
+            let request = b.request;
+            let output = b.output;
+            Asked::IoCompletion(IoCompleted {
+                request: request,
+                result: b.result,
+                information: b.information,
+                size: b.size,
+                payload: output,
+            })
+        }
+        IoControlCompletionRead::Fails(fault) => Asked::Fails(fault),
+    }
 }

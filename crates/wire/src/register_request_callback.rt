@@ -7,14 +7,14 @@ use crate::ids::InterfaceId;
 use crate::ids::Known;
 use crate::kind::Side;
 use crate::kind::calls_known;
-use crate::reading::Body;
-use crate::reading::Fault;
-use crate::reading::Reading;
+use crate::layout::Fault;
+use crate::message::Asked;
 use crate::words::rest;
 use crate::words::u32_at;
 ghost use mathlib.Core.Path.{_≡_};
 ghost use Rattle.wire.specs.declared.ids.Known.the-variants.{Nothing};
 ghost use Rattle.wire.specs.Kinds.{fits, registerRequestCallback};
+ghost use Rattle.wire.specs.Message.{registerRequestCallbackAsked};
 ghost use Rattle.wire.specs.RegisterRequestCallback.{registerRequestCallbackOf, registerRequestCallbackAllowed};
 
 pub struct RegisterRequestCallback {
@@ -22,6 +22,11 @@ pub struct RegisterRequestCallback {
     pub callback: Known,
     // the top 2 bits of RequestCompletion, which are no part of the interface
     pub mask: u32,
+}
+
+pub enum RegisterRequestCallbackRead {
+    Fits(RegisterRequestCallback),
+    Fails(Fault),
 }
 
 impl RegisterRequestCallback {
@@ -43,35 +48,35 @@ pub(crate) fn fits(h: Header, side: u8, device: Known) -> bool
     )
 }
 
-pub(crate) fn read(m: &[u8]) -> Reading
+pub(crate) fn read(m: &[u8]) -> RegisterRequestCallbackRead
     ensures { λ r. ⌜ r ≡ registerRequestCallbackOf (now (m .entry)) ⌝ }
 {
     if rest(m, 12) < 4 {
-        return Reading::Fails(Fault::RanOut(12));
+        return RegisterRequestCallbackRead::Fails(Fault::RanOut(12));
     }
     let count = u32_at(m, 12);
     if count == 0 {
         if 0 < rest(m, 16) {
-            return Reading::Fails(Fault::LeftOver(16));
+            return RegisterRequestCallbackRead::Fails(Fault::LeftOver(16));
         }
-        return Reading::Fits(Body::RegisterRequestCallback(RegisterRequestCallback {
+        return RegisterRequestCallbackRead::Fits(RegisterRequestCallback {
             count: count,
             callback: Known::Nothing,
             mask: 0,
-        }));
+        });
     }
     if rest(m, 16) < 4 {
-        return Reading::Fails(Fault::RanOut(16));
+        return RegisterRequestCallbackRead::Fails(Fault::RanOut(16));
     }
     if 0 < rest(m, 20) {
-        return Reading::Fails(Fault::LeftOver(20));
+        return RegisterRequestCallbackRead::Fails(Fault::LeftOver(20));
     }
     let word = u32_at(m, 16);
-    Reading::Fits(Body::RegisterRequestCallback(RegisterRequestCallback {
+    RegisterRequestCallbackRead::Fits(RegisterRequestCallback {
         count: count,
         callback: Known::Is(InterfaceId::of_word(word)),
         mask: InterfaceId::mask_of(word),
-    }))
+    })
 }
 
 pub(crate) fn allowed(b: RegisterRequestCallback) -> bool
@@ -81,5 +86,20 @@ pub(crate) fn allowed(b: RegisterRequestCallback) -> bool
     match callback {
         Known::Nothing => true,
         Known::Is(id) => 4 <= id.number(),
+    }
+}
+
+pub(crate) fn ask(m: &[u8]) -> Asked
+    ensures { λ r. ⌜ r ≡ registerRequestCallbackAsked (registerRequestCallbackOf (now (m .entry))) ⌝ }
+{
+    match read(m) {
+        RegisterRequestCallbackRead::Fits(b) => {
+            if !allowed(b) {
+                return Asked::Value;
+            }
+            let callback = b.callback;
+            Asked::Callback(callback)
+        }
+        RegisterRequestCallbackRead::Fails(fault) => Asked::Fails(fault),
     }
 }

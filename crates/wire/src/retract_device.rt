@@ -5,18 +5,23 @@ use crate::header::Header;
 use crate::ids::Known;
 use crate::kind::Side;
 use crate::kind::calls_known;
-use crate::reading::Body;
-use crate::reading::Fault;
-use crate::reading::Reading;
+use crate::layout::Fault;
+use crate::message::Asked;
 use crate::words::rest;
 use crate::words::u32_at;
 ghost use mathlib.Core.Path.{_≡_};
 ghost use Rattle.wire.specs.declared.ids.Known.the-variants.{Nothing};
 ghost use Rattle.wire.specs.Kinds.{fits, retractDevice};
+ghost use Rattle.wire.specs.Message.{retractDeviceAsked};
 ghost use Rattle.wire.specs.RetractDevice.{retractDeviceOf, retractDeviceAllowed};
 
 pub struct RetractDevice {
     pub reason: u32,
+}
+
+pub enum RetractDeviceRead {
+    Fits(RetractDevice),
+    Fails(Fault),
 }
 
 impl RetractDevice {
@@ -38,22 +43,36 @@ pub(crate) fn fits(h: Header, side: u8, device: Known) -> bool
     )
 }
 
-pub(crate) fn read(m: &[u8]) -> Reading
+pub(crate) fn read(m: &[u8]) -> RetractDeviceRead
     ensures { λ r. ⌜ r ≡ retractDeviceOf (now (m .entry)) ⌝ }
 {
     if rest(m, 12) < 4 {
-        return Reading::Fails(Fault::RanOut(12));
+        return RetractDeviceRead::Fails(Fault::RanOut(12));
     }
     if 0 < rest(m, 16) {
-        return Reading::Fails(Fault::LeftOver(16));
+        return RetractDeviceRead::Fails(Fault::LeftOver(16));
     }
-    Reading::Fits(Body::RetractDevice(RetractDevice {
+    RetractDeviceRead::Fits(RetractDevice {
         reason: u32_at(m, 12),
-    }))
+    })
 }
 
 pub(crate) fn allowed(b: RetractDevice) -> bool
     ensures { λ r. ⌜ r ≡ retractDeviceAllowed b ⌝ }
 {
     b.reason == 1
+}
+
+pub(crate) fn ask(m: &[u8]) -> Asked
+    ensures { λ r. ⌜ r ≡ retractDeviceAsked (retractDeviceOf (now (m .entry))) ⌝ }
+{
+    match read(m) {
+        RetractDeviceRead::Fits(b) => {
+            if !allowed(b) {
+                return Asked::Value;
+            }
+            Asked::Retract
+        }
+        RetractDeviceRead::Fails(fault) => Asked::Fails(fault),
+    }
 }

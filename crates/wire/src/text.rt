@@ -2,8 +2,8 @@
 //
 //   at    count  4
 //   at+4  units  2 * count
-use crate::reading::Fault;
-use crate::reading::Part;
+use crate::layout::Fault;
+use crate::layout::Part;
 use crate::words::rest;
 use crate::words::u16_at;
 use crate::words::u32_at;

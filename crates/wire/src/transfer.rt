@@ -3,7 +3,7 @@
 //   12  CbTsUrb           4  at least 8
 //   16  TsUrb             CbTsUrb
 //    e  OutputBufferSize  4
-use crate::reading::Fault;
+use crate::layout::Fault;
 use crate::ts_urb;
 use crate::ts_urb::TsUrb;
 use crate::ts_urb::TsUrbRead;

@@ -7,9 +7,10 @@ use crate::header::Header;
 use crate::ids::Known;
 use crate::kind::Side;
 use crate::kind::calls_known;
-use crate::reading::Body;
-use crate::reading::Fault;
-use crate::reading::Reading;
+use crate::layout::Fault;
+use crate::layout::Part;
+use crate::message::Asked;
+use crate::message::Request;
 use crate::transfer;
 use crate::transfer::TransferRead;
 use crate::ts_urb;
@@ -18,11 +19,17 @@ use crate::words::rest;
 ghost use mathlib.Core.Path.{_≡_};
 ghost use Rattle.wire.specs.declared.ids.Known.the-variants.{Nothing};
 ghost use Rattle.wire.specs.Kinds.{fits, transferInRequest};
+ghost use Rattle.wire.specs.Message.{transferInRequestAsked};
 ghost use Rattle.wire.specs.TransferInRequest.{transferInRequestOf, transferInRequestAllowed};
 
 pub struct TransferInRequest {
     pub urb: TsUrb,
     pub size: u32,
+}
+
+pub enum TransferInRequestRead {
+    Fits(TransferInRequest),
+    Fails(Fault),
 }
 
 impl TransferInRequest {
@@ -44,23 +51,23 @@ pub(crate) fn fits(h: Header, side: u8, device: Known) -> bool
     )
 }
 
-pub(crate) fn read(m: &[u8]) -> Reading
+pub(crate) fn read(m: &[u8]) -> TransferInRequestRead
     ensures { λ r. ⌜ r ≡ transferInRequestOf (now (m .entry)) ⌝ }
 {
     match transfer::read(m) {
-        TransferRead::Fails(fault) => Reading::Fails(fault),
+        TransferRead::Fails(fault) => TransferInRequestRead::Fails(fault),
         TransferRead::Fits(t) => {
             if t.last < t.end {
-                return Reading::Fails(Fault::LeftOver(t.last));
+                return TransferInRequestRead::Fails(Fault::LeftOver(t.last));
             }
             if 0 < rest(m, t.after) {
-                return Reading::Fails(Fault::LeftOver(t.after));
+                return TransferInRequestRead::Fails(Fault::LeftOver(t.after));
             }
             let urb = t.urb;
-            Reading::Fits(Body::TransferInRequest(TransferInRequest {
+            TransferInRequestRead::Fits(TransferInRequest {
                 urb: urb,
                 size: t.size,
-            }))
+            })
         }
     }
 }
@@ -80,4 +87,25 @@ pub(crate) fn allowed(b: TransferInRequest) -> bool
         return b.size == 0;
     }
     true
+}
+
+pub(crate) fn ask(m: &[u8]) -> Asked
+    ensures { λ r. ⌜ r ≡ transferInRequestAsked (transferInRequestOf (now (m .entry))) ⌝ }
+{
+    match read(m) {
+        TransferInRequestRead::Fits(b) => {
+            if !allowed(b) {
+                return Asked::Value;
+            }
+            let urb = b.urb;
+            let request = urb.request;
+            Asked::TransferIn(Request {
+                request: request,
+                size: b.size,
+                noack: urb.noack,
+                payload: Part { start: 0, size: 0 },
+            })
+        }
+        TransferInRequestRead::Fails(fault) => Asked::Fails(fault),
+    }
 }

@@ -8,10 +8,10 @@ use crate::header::Header;
 use crate::ids::Known;
 use crate::kind::Side;
 use crate::kind::calls_known;
-use crate::reading::Body;
-use crate::reading::Fault;
-use crate::reading::Part;
-use crate::reading::Reading;
+use crate::layout::Fault;
+use crate::layout::Part;
+use crate::message::Asked;
+use crate::message::Request;
 use crate::transfer;
 use crate::transfer::Transfer;
 use crate::transfer::TransferRead;
@@ -21,12 +21,18 @@ use crate::words::rest;
 ghost use mathlib.Core.Path.{_≡_};
 ghost use Rattle.wire.specs.declared.ids.Known.the-variants.{Nothing};
 ghost use Rattle.wire.specs.Kinds.{fits, transferOutRequest};
+ghost use Rattle.wire.specs.Message.{transferOutRequestAsked};
 ghost use Rattle.wire.specs.TransferOutRequest.{transferOutRequestOf, outgoingOf, transferOutRequestAllowed};
 
 pub struct TransferOutRequest {
     pub urb: TsUrb,
     pub size: u32,
     pub output: Part,
+}
+
+pub enum TransferOutRequestRead {
+    Fits(TransferOutRequest),
+    Fails(Fault),
 }
 
 impl TransferOutRequest {
@@ -48,39 +54,39 @@ pub(crate) fn fits(h: Header, side: u8, device: Known) -> bool
     )
 }
 
-pub(crate) fn read(m: &[u8]) -> Reading
+pub(crate) fn read(m: &[u8]) -> TransferOutRequestRead
     ensures { λ r. ⌜ r ≡ transferOutRequestOf (now (m .entry)) ⌝ }
 {
     match transfer::read(m) {
         TransferRead::Fits(t) => outgoing(m, t),
-        TransferRead::Fails(fault) => Reading::Fails(fault),
+        TransferRead::Fails(fault) => TransferOutRequestRead::Fails(fault),
     }
 }
 
-fn outgoing(m: &[u8], t: Transfer) -> Reading
+fn outgoing(m: &[u8], t: Transfer) -> TransferOutRequestRead
     ensures { λ r. ⌜ r ≡ outgoingOf (now (m .entry)) t ⌝ }
 {
     let after = t.after;
     let size = t.size as usize;
     if rest(m, after) < size {
-        return Reading::Fails(Fault::RanOut(after));
+        return TransferOutRequestRead::Fails(Fault::RanOut(after));
     }
     if t.last < t.end {
-        return Reading::Fails(Fault::LeftOver(t.last));
+        return TransferOutRequestRead::Fails(Fault::LeftOver(t.last));
     }
     let e = after + size;
     if 0 < rest(m, e) {
-        return Reading::Fails(Fault::LeftOver(e));
+        return TransferOutRequestRead::Fails(Fault::LeftOver(e));
     }
     let urb = t.urb;
-    Reading::Fits(Body::TransferOutRequest(TransferOutRequest {
+    TransferOutRequestRead::Fits(TransferOutRequest {
         urb: urb,
         size: t.size,
         output: Part {
             start: after,
             size: size,
         },
-    }))
+    })
 }
 
 pub(crate) fn allowed(b: TransferOutRequest) -> bool
@@ -98,4 +104,26 @@ pub(crate) fn allowed(b: TransferOutRequest) -> bool
         return ts_urb::may_skip_ack(urb);
     }
     true
+}
+
+pub(crate) fn ask(m: &[u8]) -> Asked
+    ensures { λ r. ⌜ r ≡ transferOutRequestAsked (transferOutRequestOf (now (m .entry))) ⌝ }
+{
+    match read(m) {
+        TransferOutRequestRead::Fits(b) => {
+            if !allowed(b) {
+                return Asked::Value;
+            }
+            let urb = b.urb;
+            let request = urb.request;
+            let output = b.output;
+            Asked::TransferOut(Request {
+                request: request,
+                size: b.size,
+                noack: urb.noack,
+                payload: output,
+            })
+        }
+        TransferOutRequestRead::Fails(fault) => Asked::Fails(fault),
+    }
 }

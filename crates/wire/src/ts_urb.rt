@@ -6,7 +6,7 @@
 //       NoAck          1 bit, the top one of the same word
 //   24  by function
 use crate::ids::RequestId;
-use crate::reading::Fault;
+use crate::layout::Fault;
 use crate::urb_bulk_or_interrupt_transfer;
 use crate::urb_bulk_or_interrupt_transfer::BulkOrInterruptTransfer;
 use crate::urb_control_transfer;

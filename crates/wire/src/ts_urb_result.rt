@@ -10,8 +10,8 @@
 //    e  HResult           4
 //  e+4  OutputBufferSize  4
 use crate::ids::RequestId;
-use crate::reading::Fault;
-use crate::reading::Part;
+use crate::layout::Fault;
+use crate::layout::Part;
 use crate::words::rest;
 use crate::words::u16_at;
 use crate::words::u32_at;

@@ -2,7 +2,7 @@
 //
 //   24  PipeHandle     4
 //   28  TransferFlags  4
-use crate::reading::Fault;
+use crate::layout::Fault;
 use crate::ts_urb::StructureRead;
 use crate::ts_urb::Urb;
 use crate::words::rest;

@@ -7,10 +7,10 @@ use crate::ids::Known;
 use crate::ids::RequestId;
 use crate::kind::Side;
 use crate::kind::calls_known;
-use crate::reading::Body;
-use crate::reading::Fault;
-use crate::reading::Part;
-use crate::reading::Reading;
+use crate::layout::Fault;
+use crate::layout::Part;
+use crate::message::Asked;
+use crate::message::UrbCompleted;
 use crate::ts_urb_result;
 use crate::ts_urb_result::Completion;
 use crate::ts_urb_result::CompletionRead;
@@ -19,6 +19,7 @@ use crate::words::rest;
 ghost use mathlib.Core.Path.{_≡_};
 ghost use Rattle.wire.specs.declared.ids.Known.the-variants.{Nothing};
 ghost use Rattle.wire.specs.Kinds.{fits, urbCompletion};
+ghost use Rattle.wire.specs.Message.{urbCompletionAsked};
 ghost use Rattle.wire.specs.UrbCompletion.{urbCompletionOf, withOutputOf, urbCompletionAllowed};
 
 pub struct UrbCompletion {
@@ -27,6 +28,11 @@ pub struct UrbCompletion {
     pub result: u32,
     pub size: u32,
     pub output: Part,
+}
+
+pub enum UrbCompletionRead {
+    Fits(UrbCompletion),
+    Fails(Fault),
 }
 
 impl UrbCompletion {
@@ -48,30 +54,30 @@ pub(crate) fn fits(h: Header, side: u8, callback: Known) -> bool
     )
 }
 
-pub(crate) fn read(m: &[u8]) -> Reading
+pub(crate) fn read(m: &[u8]) -> UrbCompletionRead
     ensures { λ r. ⌜ r ≡ urbCompletionOf (now (m .entry)) ⌝ }
 {
     match ts_urb_result::read(m) {
         CompletionRead::Fits(c) => with_output(m, c),
-        CompletionRead::Fails(fault) => Reading::Fails(fault),
+        CompletionRead::Fails(fault) => UrbCompletionRead::Fails(fault),
     }
 }
 
-fn with_output(m: &[u8], c: Completion) -> Reading
+fn with_output(m: &[u8], c: Completion) -> UrbCompletionRead
     ensures { λ r. ⌜ r ≡ withOutputOf (now (m .entry)) c ⌝ }
 {
     let after = c.after;
     let size = c.size as usize;
     if rest(m, after) < size {
-        return Reading::Fails(Fault::RanOut(after));
+        return UrbCompletionRead::Fails(Fault::RanOut(after));
     }
     let e = after + size;
     if 0 < rest(m, e) {
-        return Reading::Fails(Fault::LeftOver(e));
+        return UrbCompletionRead::Fails(Fault::LeftOver(e));
     }
     let request = c.request;
     let urb = c.urb;
-    Reading::Fits(Body::UrbCompletion(UrbCompletion {
+    UrbCompletionRead::Fits(UrbCompletion {
         request: request,
         urb: urb,
         result: c.result,
@@ -80,11 +86,31 @@ fn with_output(m: &[u8], c: Completion) -> Reading
             start: after,
             size: size,
         },
-    }))
+    })
 }
 
 pub(crate) fn allowed(b: UrbCompletion) -> bool
     ensures { λ r. ⌜ r ≡ urbCompletionAllowed b ⌝ }
 {
     b.size != 0
+}
+
+pub(crate) fn ask(m: &[u8]) -> Asked
+    ensures { λ r. ⌜ r ≡ urbCompletionAsked (urbCompletionOf (now (m .entry))) ⌝ }
+{
+    match read(m) {
+        UrbCompletionRead::Fits(b) => {
+            if !allowed(b) {
+                return Asked::Value;
+            }
+            let request = b.request;
+            let output = b.output;
+            Asked::UrbCompletion(UrbCompleted {
+                request: request,
+                size: b.size,
+                payload: output,
+            })
+        }
+        UrbCompletionRead::Fails(fault) => Asked::Fails(fault),
+    }
 }

@@ -6,9 +6,10 @@ use crate::ids::Known;
 use crate::ids::RequestId;
 use crate::kind::Side;
 use crate::kind::calls_known;
-use crate::reading::Body;
-use crate::reading::Fault;
-use crate::reading::Reading;
+use crate::layout::Fault;
+use crate::layout::Part;
+use crate::message::Asked;
+use crate::message::UrbCompleted;
 use crate::ts_urb_result;
 use crate::ts_urb_result::CompletionRead;
 use crate::ts_urb_result::TsUrbResult;
@@ -16,6 +17,7 @@ use crate::words::rest;
 ghost use mathlib.Core.Path.{_≡_};
 ghost use Rattle.wire.specs.declared.ids.Known.the-variants.{Nothing};
 ghost use Rattle.wire.specs.Kinds.{fits, urbCompletionNoData};
+ghost use Rattle.wire.specs.Message.{urbCompletionNoDataAsked};
 ghost use Rattle.wire.specs.UrbCompletionNoData.{urbCompletionNoDataOf};
 
 pub struct UrbCompletionNoData {
@@ -23,6 +25,11 @@ pub struct UrbCompletionNoData {
     pub urb: TsUrbResult,
     pub result: u32,
     pub size: u32,
+}
+
+pub enum UrbCompletionNoDataRead {
+    Fits(UrbCompletionNoData),
+    Fails(Fault),
 }
 
 impl UrbCompletionNoData {
@@ -44,23 +51,39 @@ pub(crate) fn fits(h: Header, side: u8, callback: Known) -> bool
     )
 }
 
-pub(crate) fn read(m: &[u8]) -> Reading
+pub(crate) fn read(m: &[u8]) -> UrbCompletionNoDataRead
     ensures { λ r. ⌜ r ≡ urbCompletionNoDataOf (now (m .entry)) ⌝ }
 {
     match ts_urb_result::read(m) {
-        CompletionRead::Fails(fault) => Reading::Fails(fault),
+        CompletionRead::Fails(fault) => UrbCompletionNoDataRead::Fails(fault),
         CompletionRead::Fits(c) => {
             if 0 < rest(m, c.after) {
-                return Reading::Fails(Fault::LeftOver(c.after));
+                return UrbCompletionNoDataRead::Fails(Fault::LeftOver(c.after));
             }
             let request = c.request;
             let urb = c.urb;
-            Reading::Fits(Body::UrbCompletionNoData(UrbCompletionNoData {
+            UrbCompletionNoDataRead::Fits(UrbCompletionNoData {
                 request: request,
                 urb: urb,
                 result: c.result,
                 size: c.size,
-            }))
+            })
         }
+    }
+}
+
+pub(crate) fn ask(m: &[u8]) -> Asked
+    ensures { λ r. ⌜ r ≡ urbCompletionNoDataAsked (urbCompletionNoDataOf (now (m .entry))) ⌝ }
+{
+    match read(m) {
+        UrbCompletionNoDataRead::Fits(b) => {
+            let request = b.request;
+            Asked::UrbCompletionNoData(UrbCompleted {
+                request: request,
+                size: b.size,
+                payload: Part { start: 0, size: 0 },
+            })
+        }
+        UrbCompletionNoDataRead::Fails(fault) => Asked::Fails(fault),
     }
 }

@@ -3,8 +3,8 @@
 //   24  PipeHandle     4
 //   28  TransferFlags  4
 //   32  SetupPacket    8
-use crate::reading::Fault;
-use crate::reading::Part;
+use crate::layout::Fault;
+use crate::layout::Part;
 use crate::ts_urb::StructureRead;
 use crate::ts_urb::Urb;
 use crate::words::rest;

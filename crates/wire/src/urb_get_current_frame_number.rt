@@ -1,5 +1,5 @@
 // TS_URB_GET_CURRENT_FRAME_NUMBER (000 2.2.9.5): the header alone.
-use crate::reading::Fault;
+use crate::layout::Fault;
 use crate::ts_urb::StructureRead;
 use crate::ts_urb::Urb;
 use crate::words::rest;

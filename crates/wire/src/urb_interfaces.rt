@@ -7,13 +7,13 @@
 //    5  AlternateSetting       1                 8  PipeFlags            4
 //    6  Padding                2
 //    8  NumberOfPipes          4  n, at most 30
-use crate::reading::Fault;
+use crate::layout::Fault;
 use crate::words::rest;
 use crate::words::u16_at;
 use crate::words::u32_at;
 ghost use mathlib.Core.Path.{_≡_};
 ghost use Prim.Native.Nat.{_≤_};
-ghost use Rattle.wire.specs.Interfaces.{interfaceField, pipeField, larger, interfacesOf, pipesOf};
+ghost use Rattle.wire.specs.Interfaces.{interfaceField, pipeField, larger, lengthAgrees, interfacesOf, pipesOf};
 
 // Where a list ends and the largest NumberOfPipes in it, or what broke.
 pub enum Walk {
@@ -71,6 +71,13 @@ fn larger_of(a: u32, b: u32) -> u32
     if a < b { b } else { a }
 }
 
+// Length is that of an interface with `pipes` pipes. The sum is of 64 bits, so that no pipe count makes it wrap.
+fn length_agrees(length: u32, pipes: u32) -> bool
+    ensures { λ r. ⌜ r ≡ lengthAgrees length pipes ⌝ }
+{
+    length as u64 == 12 + 12 * pipes as u64
+}
+
 // `left` interfaces from `at` on. The largest pipe count so far is `most`.
 //
 // The two readers call each other in tail position: a list of any length is read in constant stack.
@@ -85,8 +92,7 @@ pub(crate) fn interface(s: &[u8], at: usize, left: u32, most: u32) -> Walk
         return Walk::Fails(Fault::RanOut(at + interface_field(bytes)));
     }
     let pipes = u32_at(s, at + 8);
-    let length = u16_at(s, at) as u64;
-    if length == 12 + 12 * (pipes as u64) {
+    if length_agrees(u16_at(s, at), pipes) {
         pipe(s, at + 12, pipes, left - 1, larger_of(most, pipes))
     } else {
         Walk::Fails(Fault::Disagrees(at))

@@ -6,8 +6,8 @@
 //   36  NumberOfPackets  4  n, at most 1,024
 //   40  ErrorCount       4
 //   44  IsoPacket        12 n
-use crate::reading::Fault;
-use crate::reading::Part;
+use crate::layout::Fault;
+use crate::layout::Part;
 use crate::ts_urb::StructureRead;
 use crate::ts_urb::Urb;
 use crate::words::rest;

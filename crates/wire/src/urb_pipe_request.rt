@@ -1,7 +1,7 @@
 // TS_URB_PIPE_REQUEST (000 2.2.9.4), of two functions.
 //
 //   24  PipeHandle  4
-use crate::reading::Fault;
+use crate::layout::Fault;
 use crate::ts_urb::StructureRead;
 use crate::ts_urb::Urb;
 use crate::words::rest;

@@ -6,8 +6,8 @@
 //   32  interfaces                      as many
 //    e  USB_CONFIGURATION_DESCRIPTOR    the rest, at least 9 bytes, only where the flag is not 0
 //         its first two bytes are 9 and 2
-use crate::reading::Fault;
-use crate::reading::Part;
+use crate::layout::Fault;
+use crate::layout::Part;
 use crate::ts_urb::StructureRead;
 use crate::ts_urb::Urb;
 use crate::urb_interfaces;

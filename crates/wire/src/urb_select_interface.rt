@@ -2,8 +2,8 @@
 //
 //   24  ConfigurationHandle  4
 //   28  one interface
-use crate::reading::Fault;
-use crate::reading::Part;
+use crate::layout::Fault;
+use crate::layout::Part;
 use crate::ts_urb::StructureRead;
 use crate::ts_urb::Urb;
 use crate::urb_interfaces;

@@ -3,7 +3,7 @@ use Prim.Native.Nat.{ℕ, _<_, _-_, _+_, _*_}
 use lib.ListN.{length}
 use native.Mathlib.Omega.{arith}
 use borrow.Author.Needs.{needs}
-use borrow.Author.Tests.{lt-ltb, le-ltb, eq-eqb, ne-eqb}
+use borrow.Author.Tests.{lt-ltb, le-ltb, ne-eqb}
 use borrow.Fn.Kinds.{In}
 use borrow.Fn.PlainCycle.{Measures, is, falls, and}
 use Rattle.wire.proofs.Tests.{tests}
@@ -15,6 +15,7 @@ use Rattle.wire.proofs.urb_interfaces.pipe.Reads as pipe
 use Rattle.wire.proofs.urb_interfaces.pipe.Kinds as pipe-kinds
 use Rattle.wire.proofs.urb_interfaces.+interface+pipe.Lts-pipe as pipe-lts
 use Rattle.wire.proofs.urb_interfaces.interface_field.Reads as interface-field-reads
+use Rattle.wire.proofs.urb_interfaces.length_agrees.Reads as length-agrees-reads
 use Rattle.wire.proofs.urb_interfaces.larger_of.Reads as larger-of-reads
 use Rattle.wire.proofs.urb_interfaces.pipe_field.Reads as pipe-field-reads
 use Rattle.wire.proofs.words.rest.Reads as rest-reads
@@ -45,7 +46,7 @@ pub +interface+pipe-spec : {M : Type 1} → statement M
 +interface+pipe-spec =
     close μ-interface μ-pipe
     (λ t. interface-lts.spec
-    (rest-reads.Asked, rest-reads.Learnt, interface-field-reads.Asked, interface-field-reads.Learnt, u32-at-reads.Asked, u32-at-reads.Learnt, u16-at-reads.Asked, u16-at-reads.Learnt, larger-of-reads.Asked, larger-of-reads.Learnt, pipe-below t, pipe.Post)
+    (rest-reads.Asked, rest-reads.Learnt, interface-field-reads.Asked, interface-field-reads.Learnt, u32-at-reads.Asked, u32-at-reads.Learnt, u16-at-reads.Asked, u16-at-reads.Learnt, length-agrees-reads.Asked, length-agrees-reads.Learnt, larger-of-reads.Asked, larger-of-reads.Learnt, pipe-below t, pipe.Post)
     (interface-at t) interface.Post
     (λ c. rw interfaces-step (search tests))
     (search needs)
@@ -60,11 +61,8 @@ pub +interface+pipe-spec : {M : Type 1} → statement M
     (search needs)
     (search needs)
     (search needs)
-    (search needs)
-    (search needs)
-    (search needs)
-    (λ c. let k = c .before .before .before .before .before .before in rw (interfaces-step, ne-eqb _ _ (k .before .if1 .left), ← (k .rest .ensures), le-ltb _ _ (c .before .before .before .before .before .if2 .left), ← (c .before .before .before .before .u32-at .ensures), ← (c .before .before .before .u16-at .ensures), eq-eqb _ _ (c .before .before .if3 .taken), ← (c .before .larger-of .ensures), ← (c .pipe .ensures)))
-    (λ c. let k = c .before .before .before .before in rw (interfaces-step, ne-eqb _ _ (k .before .if1 .left), ← (k .rest .ensures), le-ltb _ _ (c .before .before .before .if2 .left), ← (c .before .before .u32-at .ensures), ← (c .before .u16-at .ensures), ne-eqb _ _ (c .if3 .left))))
+    (λ c. let k = c .before .before .before .before .before .before .before in rw (interfaces-step, ne-eqb _ _ (k .before .if1 .left), ← (k .rest .ensures), le-ltb _ _ (c .before .before .before .before .before .before .if2 .left), ← (c .before .before .before .before .before .u32-at .ensures), ← (c .before .before .before .before .u16-at .ensures), ← (c .before .before .before .length-agrees .ensures), c .before .before .if3 .taken, ← (c .before .larger-of .ensures), ← (c .pipe .ensures)))
+    (λ c. let k = c .before .before .before .before .before in rw (interfaces-step, ne-eqb _ _ (k .before .if1 .left), ← (k .rest .ensures), le-ltb _ _ (c .before .before .before .before .if2 .left), ← (c .before .before .before .u32-at .ensures), ← (c .before .before .u16-at .ensures), ← (c .before .length-agrees .ensures), c .if3 .left)))
     (λ t. pipe-lts.spec
     (interface-below t, interface.Post, rest-reads.Asked, rest-reads.Learnt, pipe-field-reads.Asked, pipe-field-reads.Learnt, pipe-below t, pipe.Post)
     (pipe-at t) pipe.Post
