@@ -3,20 +3,20 @@ use Prim.Native.Nat.{ℕ, _+_}
 use mathlib.Core.List.{List}
 use mathlib.Core.Bool.{Bool, _&&_}
 use lib.Dec.{eqb, leb}
-use Rattle.wire.specs.Words.{wordAt}
-use Rattle.wire.specs.Ids.{interfaceIn, maskIn}
-use Rattle.wire.specs.Layout.{field, ended}
-use Rattle.wire.specs.Text.{textOf, textAllowed, textsAllowed}
-use Rattle.wire.specs.DeviceCapabilities.{capabilitiesOf, capabilitiesAllowed}
-use Rattle.wire.specs.declared.text.Text.{Text}
-use Rattle.wire.specs.declared.text.TextRead.{TextRead}
-use Rattle.wire.specs.declared.text.TextRead.the-variants as text
+use Rattle.words.specs.Words.{wordAt}
+use Rattle.words.specs.Ids.{interfaceIn, maskIn}
+use Rattle.words.specs.Layout.{field, ended}
+use Rattle.device.specs.Text.{textOf, textAllowed, textsAllowed}
+use Rattle.device.specs.DeviceCapabilities.{capabilitiesOf, capabilitiesAllowed}
+use Rattle.device.specs.declared.text.Text.{Text}
+use Rattle.device.specs.declared.text.TextRead.{TextRead}
+use Rattle.device.specs.declared.text.TextRead.the-variants as text
 use Rattle.wire.specs.declared.add_device.TextPair.{TextPair}
 use Rattle.wire.specs.declared.add_device.AddDevice.{AddDevice}
 use Rattle.wire.specs.declared.add_device.PairRead.{PairRead}
 use Rattle.wire.specs.declared.add_device.PairRead.the-variants as pair
-use Rattle.wire.specs.declared.device_capabilities.CapabilitiesRead.{CapabilitiesRead}
-use Rattle.wire.specs.declared.device_capabilities.CapabilitiesRead.the-variants as capabilities
+use Rattle.device.specs.declared.device_capabilities.CapabilitiesRead.{CapabilitiesRead}
+use Rattle.device.specs.declared.device_capabilities.CapabilitiesRead.the-variants as capabilities
 use Rattle.wire.specs.declared.add_device.AddDeviceRead.{AddDeviceRead}
 use Rattle.wire.specs.declared.add_device.AddDeviceRead.the-variants.{Fits, Fails}
 

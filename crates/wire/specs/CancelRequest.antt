@@ -1,9 +1,9 @@
 -- 000 2.2.6.1, kind 13.
 use Prim.Native.Nat.{ℕ}
 use mathlib.Core.List.{List}
-use Rattle.wire.specs.Words.{wordAt}
-use Rattle.wire.specs.Ids.{requestIn}
-use Rattle.wire.specs.Layout.{field, ended}
+use Rattle.words.specs.Words.{wordAt}
+use Rattle.words.specs.Ids.{requestIn}
+use Rattle.words.specs.Layout.{field, ended}
 use Rattle.wire.specs.declared.cancel_request.CancelRequestRead.{CancelRequestRead}
 use Rattle.wire.specs.declared.cancel_request.CancelRequestRead.the-variants.{Fits, Fails}
 

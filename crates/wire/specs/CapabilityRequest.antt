@@ -3,8 +3,8 @@ use Prim.Native.Nat.{ℕ}
 use mathlib.Core.List.{List}
 use mathlib.Core.Bool.{Bool}
 use lib.Dec.{eqb}
-use Rattle.wire.specs.Words.{wordAt}
-use Rattle.wire.specs.Layout.{field, ended}
+use Rattle.words.specs.Words.{wordAt}
+use Rattle.words.specs.Layout.{field, ended}
 use Rattle.wire.specs.declared.capability_request.CapabilityRequest.{CapabilityRequest}
 use Rattle.wire.specs.declared.capability_request.CapabilityRequestRead.{CapabilityRequestRead}
 use Rattle.wire.specs.declared.capability_request.CapabilityRequestRead.the-variants.{Fits, Fails}

@@ -3,8 +3,8 @@ use Prim.Native.Nat.{ℕ}
 use mathlib.Core.List.{List}
 use mathlib.Core.Bool.{Bool, _&&_}
 use lib.Dec.{eqb, ltb}
-use Rattle.wire.specs.Words.{wordAt}
-use Rattle.wire.specs.Layout.{field, ended}
+use Rattle.words.specs.Words.{wordAt}
+use Rattle.words.specs.Layout.{field, ended}
 use Rattle.wire.specs.declared.capability_response.CapabilityResponse.{CapabilityResponse}
 use Rattle.wire.specs.declared.capability_response.CapabilityResponseRead.{CapabilityResponseRead}
 use Rattle.wire.specs.declared.capability_response.CapabilityResponseRead.the-variants.{Fits, Fails}

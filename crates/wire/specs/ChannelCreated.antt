@@ -3,8 +3,8 @@ use Prim.Native.Nat.{ℕ}
 use mathlib.Core.List.{List}
 use mathlib.Core.Bool.{Bool, _&&_}
 use lib.Dec.{eqb}
-use Rattle.wire.specs.Words.{wordAt}
-use Rattle.wire.specs.Layout.{field, ended}
+use Rattle.words.specs.Words.{wordAt}
+use Rattle.words.specs.Layout.{field, ended}
 use Rattle.wire.specs.declared.channel_created.ChannelCreated.{ChannelCreated}
 use Rattle.wire.specs.declared.channel_created.ChannelCreatedRead.{ChannelCreatedRead}
 use Rattle.wire.specs.declared.channel_created.ChannelCreatedRead.the-variants.{Fits, Fails}

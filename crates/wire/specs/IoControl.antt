@@ -1,9 +1,9 @@
 -- 000 2.2.6.3 and 2.2.6.4, kinds 8 and 9.
 use Prim.Native.Nat.{ℕ, _+_}
 use mathlib.Core.List.{List}
-use Rattle.wire.specs.Words.{wordAt}
-use Rattle.wire.specs.Ids.{requestIn}
-use Rattle.wire.specs.Layout.{field, ended}
+use Rattle.words.specs.Words.{wordAt}
+use Rattle.words.specs.Ids.{requestIn}
+use Rattle.words.specs.Layout.{field, ended}
 use Rattle.wire.specs.declared.io_control.IoControlRead.{IoControlRead}
 use Rattle.wire.specs.declared.io_control.IoControlRead.the-variants.{Fits, Fails}
 

@@ -1,9 +1,9 @@
 -- 000 2.2.7.1, kind 15.
 use Prim.Native.Nat.{ℕ, _+_}
 use mathlib.Core.List.{List}
-use Rattle.wire.specs.Words.{wordAt}
-use Rattle.wire.specs.Ids.{requestIn}
-use Rattle.wire.specs.Layout.{field, ended}
+use Rattle.words.specs.Words.{wordAt}
+use Rattle.words.specs.Ids.{requestIn}
+use Rattle.words.specs.Layout.{field, ended}
 use Rattle.wire.specs.declared.io_control_completion.IoControlCompletionRead.{IoControlCompletionRead}
 use Rattle.wire.specs.declared.io_control_completion.IoControlCompletionRead.the-variants.{Fits, Fails}
 

@@ -3,9 +3,9 @@ use Prim.Native.Nat.{ℕ}
 use mathlib.Core.List.{List, [], _∷_}
 use mathlib.Core.Bool.{Bool, true, false, cond, _&&_}
 use lib.Dec.{eqb}
-use Rattle.wire.specs.declared.header.Header.{Header}
-use Rattle.wire.specs.declared.ids.Known.{Known}
-use Rattle.wire.specs.declared.ids.Known.the-variants as known
+use Rattle.words.specs.declared.header.Header.{Header}
+use Rattle.words.specs.declared.ids.Known.{Known}
+use Rattle.words.specs.declared.ids.Known.the-variants as known
 use Rattle.wire.specs.declared.kind.Kind.{Kind}
 use Rattle.wire.specs.declared.kind.Kind.the-variants.{CapabilityRequest, CapabilityResponse, ChannelCreatedByServer, ChannelCreatedByClient, AddVirtualChannel, AddDevice, CancelRequest, RegisterRequestCallback, IoControl, InternalIoControl, TransferInRequest, TransferOutRequest, RetractDevice, IoControlCompletion, UrbCompletion, UrbCompletionNoData}
 use Rattle.wire.specs.declared.kind.KindFound.{KindFound}

@@ -16,7 +16,7 @@ use Rattle.wire.specs.RetractDevice.{retractDeviceOf, retractDeviceAllow
 use Rattle.wire.specs.IoControlCompletion.{ioControlCompletionOf}
 use Rattle.wire.specs.UrbCompletion.{urbCompletionOf, urbCompletionAllowed}
 use Rattle.wire.specs.UrbCompletionNoData.{urbCompletionNoDataOf}
-use Rattle.wire.specs.declared.layout.Part.{Part}
+use Rattle.words.specs.declared.layout.Part.{Part}
 use Rattle.wire.specs.declared.capability_request.CapabilityRequestRead.{CapabilityRequestRead}
 use Rattle.wire.specs.declared.capability_request.CapabilityRequestRead.the-variants as capabilityRequest
 use Rattle.wire.specs.declared.capability_response.CapabilityResponseRead.{CapabilityResponseRead}

@@ -3,9 +3,9 @@ use Prim.Native.Nat.{ℕ, _+_, _<_, _≤_}
 use mathlib.Core.Path.{_≡_}
 use mathlib.Core.List.{List}
 use lib.ListN.{length}
-use Rattle.wire.specs.Words.{byteAt}
+use Rattle.words.specs.Words.{byteAt}
 use Rattle.wire.specs.Message.{emptyPart}
-use Rattle.wire.specs.declared.layout.Part.{Part}
+use Rattle.words.specs.declared.layout.Part.{Part}
 use Rattle.wire.specs.declared.message.Asked.{Asked}
 use Rattle.wire.specs.declared.message.Asked.the-variants.{Fails, Value, Step, Device, Callback, IoControl, TransferIn, TransferOut, Cancel, Retract, IoCompletion, UrbCompletion, UrbCompletionNoData}
 

@@ -56,8 +56,8 @@ use Rattle.wire.specs.declared.urb_completion.UrbCompletionRead.{UrbComp
 use Rattle.wire.specs.declared.urb_completion.UrbCompletionRead.the-variants as urbCompletion
 use Rattle.wire.specs.declared.urb_completion_no_data.UrbCompletionNoDataRead.{UrbCompletionNoDataRead}
 use Rattle.wire.specs.declared.urb_completion_no_data.UrbCompletionNoDataRead.the-variants as urbCompletionNoData
-use Rattle.wire.specs.declared.layout.Fault.{Fault}
-use Rattle.wire.specs.declared.layout.Part.{Part}
+use Rattle.words.specs.declared.layout.Fault.{Fault}
+use Rattle.words.specs.declared.layout.Part.{Part}
 use Rattle.wire.specs.declared.kind.Kind.{Kind}
 use Rattle.wire.specs.declared.kind.Kind.the-variants as kind
 use Rattle.wire.specs.Message.{emptyPart}

@@ -3,11 +3,11 @@ use Prim.Native.Nat.{ℕ}
 use mathlib.Core.List.{List}
 use mathlib.Core.Bool.{Bool, true, cond}
 use lib.Dec.{eqb, leb}
-use Rattle.wire.specs.Words.{wordAt}
-use Rattle.wire.specs.Ids.{interfaceIn, maskIn}
-use Rattle.wire.specs.Layout.{field, ended}
-use Rattle.wire.specs.declared.ids.Known.{Known}
-use Rattle.wire.specs.declared.ids.Known.the-variants.{Nothing, Is}
+use Rattle.words.specs.Words.{wordAt}
+use Rattle.words.specs.Ids.{interfaceIn, maskIn}
+use Rattle.words.specs.Layout.{field, ended}
+use Rattle.words.specs.declared.ids.Known.{Known}
+use Rattle.words.specs.declared.ids.Known.the-variants.{Nothing, Is}
 use Rattle.wire.specs.declared.register_request_callback.RegisterRequestCallback.{RegisterRequestCallback}
 use Rattle.wire.specs.declared.register_request_callback.RegisterRequestCallbackRead.{RegisterRequestCallbackRead}
 use Rattle.wire.specs.declared.register_request_callback.RegisterRequestCallbackRead.the-variants.{Fits, Fails}

@@ -2,10 +2,10 @@
 use Prim.Native.Nat.{ℕ, _+_, _*_, _≤_}
 use mathlib.Core.Bool.{cond}
 use lib.Dec.{eqb}
-use Rattle.wire.specs.declared.layout.Part.{Part}
-use Rattle.wire.specs.declared.text.Text.{Text}
-use Rattle.wire.specs.declared.ts_urb.Urb.{Urb}
-use Rattle.wire.specs.declared.ts_urb.Urb.the-variants.{SelectConfiguration, SelectInterface, GetCurrentFrameNumber, PipeRequest, BulkOrInterruptTransfer, ControlTransfer, IsochTransfer, Unknown}
+use Rattle.words.specs.declared.layout.Part.{Part}
+use Rattle.device.specs.declared.text.Text.{Text}
+use Rattle.urb.specs.declared.ts_urb.Urb.{Urb}
+use Rattle.urb.specs.declared.ts_urb.Urb.the-variants.{SelectConfiguration, SelectInterface, GetCurrentFrameNumber, PipeRequest, BulkOrInterruptTransfer, ControlTransfer, IsochTransfer, Unknown}
 use Rattle.wire.specs.Reading.{Body, capabilityRequestBody, capabilityResponseBody, channelCreatedBody, addVirtualChannelBody, addDeviceBody, cancelRequestBody, registerRequestCallbackBody, ioControlBody, transferInRequestBody, transferOutRequestBody, retractDeviceBody, ioControlCompletionBody, urbCompletionBody, urbCompletionNoDataBody}
 
 abbrev pub textSize : Text → ℕ

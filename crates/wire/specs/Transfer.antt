@@ -2,12 +2,12 @@
 use Prim.Native.Nat.{ℕ, _+_}
 use mathlib.Core.List.{List}
 use lib.ListN.{take}
-use Rattle.wire.specs.Words.{wordAt}
-use Rattle.wire.specs.Layout.{field, atLeast}
-use Rattle.wire.specs.TsUrb.{tsUrbOf}
-use Rattle.wire.specs.declared.ts_urb.TsUrb.{TsUrb}
-use Rattle.wire.specs.declared.ts_urb.TsUrbRead.{TsUrbRead}
-use Rattle.wire.specs.declared.ts_urb.TsUrbRead.the-variants as ts
+use Rattle.words.specs.Words.{wordAt}
+use Rattle.words.specs.Layout.{field, atLeast}
+use Rattle.urb.specs.TsUrb.{tsUrbOf}
+use Rattle.urb.specs.declared.ts_urb.TsUrb.{TsUrb}
+use Rattle.urb.specs.declared.ts_urb.TsUrbRead.{TsUrbRead}
+use Rattle.urb.specs.declared.ts_urb.TsUrbRead.the-variants as ts
 use Rattle.wire.specs.declared.transfer.TransferRead.{TransferRead}
 use Rattle.wire.specs.declared.transfer.TransferRead.the-variants.{Fits, Fails}
 

@@ -3,9 +3,9 @@ use Prim.Native.Nat.{ℕ}
 use mathlib.Core.List.{List}
 use mathlib.Core.Bool.{Bool, true, false, cond, not, _&&_}
 use lib.Dec.{eqb}
-use Rattle.wire.specs.Layout.{ended, filled}
+use Rattle.words.specs.Layout.{ended, filled}
 use Rattle.wire.specs.Transfer.{transferOf}
-use Rattle.wire.specs.TsUrb.{urbAllowed, onlyIn}
+use Rattle.urb.specs.TsUrb.{urbAllowed, onlyIn}
 use Rattle.wire.specs.declared.transfer.Transfer.{Transfer}
 use Rattle.wire.specs.declared.transfer.TransferRead.{TransferRead}
 use Rattle.wire.specs.declared.transfer.TransferRead.the-variants as transfer

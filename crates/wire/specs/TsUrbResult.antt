@@ -2,9 +2,9 @@
 use Prim.Native.Nat.{ℕ, _+_, _-_}
 use mathlib.Core.List.{List}
 use lib.Dec.{eqb}
-use Rattle.wire.specs.Words.{halfAt, wordAt}
-use Rattle.wire.specs.Ids.{requestIn}
-use Rattle.wire.specs.Layout.{field, agrees, atLeast}
+use Rattle.words.specs.Words.{halfAt, wordAt}
+use Rattle.words.specs.Ids.{requestIn}
+use Rattle.words.specs.Layout.{field, agrees, atLeast}
 use Rattle.wire.specs.declared.ts_urb_result.CompletionRead.{CompletionRead}
 use Rattle.wire.specs.declared.ts_urb_result.CompletionRead.the-variants.{Fits, Fails}
 

@@ -3,7 +3,7 @@ use Prim.Native.Nat.{ℕ, _+_}
 use mathlib.Core.List.{List}
 use mathlib.Core.Bool.{Bool, not}
 use lib.Dec.{eqb}
-use Rattle.wire.specs.Layout.{field, ended}
+use Rattle.words.specs.Layout.{field, ended}
 use Rattle.wire.specs.TsUrbResult.{completionOf}
 use Rattle.wire.specs.declared.ts_urb_result.Completion.{Completion}
 use Rattle.wire.specs.declared.ts_urb_result.CompletionRead.{CompletionRead}

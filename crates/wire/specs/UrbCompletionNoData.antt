@@ -1,7 +1,7 @@
 -- URB_COMPLETION_NO_DATA (000 2.2.7.3), kind 17: no bytes behind OutputBufferSize, whatever it says.
 use Prim.Native.Nat.{ℕ}
 use mathlib.Core.List.{List}
-use Rattle.wire.specs.Layout.{ended}
+use Rattle.words.specs.Layout.{ended}
 use Rattle.wire.specs.TsUrbResult.{completionOf}
 use Rattle.wire.specs.declared.ts_urb_result.CompletionRead.{CompletionRead}
 use Rattle.wire.specs.declared.ts_urb_result.CompletionRead.the-variants as completion

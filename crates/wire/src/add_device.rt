@@ -7,24 +7,22 @@
 //       CompatibilityIds       a counted list of texts
 //       ContainerId            a counted text
 //       UsbDeviceCapabilities  28
-use crate::device_capabilities;
-use crate::device_capabilities::CapabilitiesRead;
-use crate::device_capabilities::DeviceCapabilities;
-use crate::header::Header;
-use crate::ids::InterfaceId;
 use crate::kind::Side;
 use crate::kind::calls;
-use crate::layout::Fault;
 use crate::message::Asked;
-use crate::text;
-use crate::text::Text;
-use crate::text::TextRead;
-use crate::words::rest;
-use crate::words::u32_at;
+use device::device_capabilities;
+use device::device_capabilities::CapabilitiesRead;
+use device::device_capabilities::DeviceCapabilities;
+use device::text;
+use device::text::Text;
+use device::text::TextRead;
+use words::header::Header;
+use words::ids::InterfaceId;
+use words::layout::Fault;
+use words::numbers::rest;
+use words::numbers::u32_at;
 ghost use mathlib.Core.Path.{_≡_};
-ghost use Prim.Native.Nat.{_≤_};
-ghost use lib.ListN.{length};
-ghost use Rattle.wire.specs.declared.ids.Known.the-variants.{Nothing};
+ghost use Rattle.words.specs.declared.ids.Known.the-variants.{Nothing};
 ghost use Rattle.wire.specs.Kinds.{fits, addDevice};
 ghost use Rattle.wire.specs.Message.{addDeviceAsked};
 ghost use Rattle.wire.specs.AddDevice.{addDeviceOf, pairOf, deviceOf, textPairAllowed, addDeviceAllowed};
@@ -117,7 +115,6 @@ fn pair(m: &[u8], at: usize) -> PairRead
 
 // The device, whose texts end at `at`.
 fn device(m: &[u8], names: TextPair, classes: TextPair, at: usize) -> AddDeviceRead
-    requires { ⌜ 20 ≤ length (now m) ⌝ }
     ensures { λ r. ⌜ r ≡ deviceOf (now (m .entry)) names classes at ⌝ }
 {
     match device_capabilities::read(m, at) {
@@ -126,15 +123,14 @@ fn device(m: &[u8], names: TextPair, classes: TextPair, at: usize) -> AddDeviceR
             if 0 < rest(m, end) {
                 return AddDeviceRead::Fails(Fault::LeftOver(end));
             }
-            let word = u32_at(m, 16);
             let instance = names.first;
             let hardware = names.second;
             let compatible = classes.first;
             let container = classes.second;
             AddDeviceRead::Fits(AddDevice {
                 count: u32_at(m, 12),
-                device: InterfaceId::of_word(word),
-                mask: InterfaceId::mask_of(word),
+                device: InterfaceId::read(m, 16),
+                mask: InterfaceId::mask(m, 16),
                 instance: instance,
                 hardware: hardware,
                 compatible: compatible,

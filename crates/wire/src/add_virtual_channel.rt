@@ -1,12 +1,12 @@
 // ADD_VIRTUAL_CHANNEL (000 2.2.4.1), kind 5: a header and nothing behind it.
-use crate::header::Header;
 use crate::kind::Side;
 use crate::kind::calls;
-use crate::layout::Fault;
 use crate::message::Asked;
-use crate::words::rest;
+use words::header::Header;
+use words::layout::Fault;
+use words::numbers::rest;
 ghost use mathlib.Core.Path.{_≡_};
-ghost use Rattle.wire.specs.declared.ids.Known.the-variants.{Nothing};
+ghost use Rattle.words.specs.declared.ids.Known.the-variants.{Nothing};
 ghost use Rattle.wire.specs.Kinds.{fits, addVirtualChannel};
 ghost use Rattle.wire.specs.Message.{addVirtualChannelAsked};
 ghost use Rattle.wire.specs.AddVirtualChannel.{addVirtualChannelOf};

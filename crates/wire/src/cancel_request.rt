@@ -1,17 +1,16 @@
 // CANCEL_REQUEST (000 2.2.6.1), kind 13. Its interface is the device's.
 //
 //   12  RequestId  4
-use crate::header::Header;
-use crate::ids::Known;
-use crate::ids::RequestId;
 use crate::kind::Side;
 use crate::kind::calls_known;
-use crate::layout::Fault;
 use crate::message::Asked;
-use crate::words::rest;
-use crate::words::u32_at;
+use words::header::Header;
+use words::ids::Known;
+use words::ids::RequestId;
+use words::layout::Fault;
+use words::numbers::rest;
 ghost use mathlib.Core.Path.{_≡_};
-ghost use Rattle.wire.specs.declared.ids.Known.the-variants.{Nothing};
+ghost use Rattle.words.specs.declared.ids.Known.the-variants.{Nothing};
 ghost use Rattle.wire.specs.Kinds.{fits, cancelRequest};
 ghost use Rattle.wire.specs.Message.{cancelRequestAsked};
 ghost use Rattle.wire.specs.CancelRequest.{cancelRequestOf};
@@ -54,7 +53,7 @@ pub(crate) fn read(m: &[u8]) -> CancelRequestRead
         return CancelRequestRead::Fails(Fault::LeftOver(16));
     }
     CancelRequestRead::Fits(CancelRequest {
-        request: RequestId::of_word(u32_at(m, 12)),
+        request: RequestId::read(m, 12),
     })
 }
 

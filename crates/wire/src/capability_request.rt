@@ -1,15 +1,15 @@
 // RIM_EXCHANGE_CAPABILITY_REQUEST (000 2.2.3.1), kind 1.
 //
 //   12  CapabilityValue  4  1
-use crate::header::Header;
 use crate::kind::Side;
 use crate::kind::calls;
-use crate::layout::Fault;
 use crate::message::Asked;
-use crate::words::rest;
-use crate::words::u32_at;
+use words::header::Header;
+use words::layout::Fault;
+use words::numbers::rest;
+use words::numbers::u32_at;
 ghost use mathlib.Core.Path.{_≡_};
-ghost use Rattle.wire.specs.declared.ids.Known.the-variants.{Nothing};
+ghost use Rattle.words.specs.declared.ids.Known.the-variants.{Nothing};
 ghost use Rattle.wire.specs.Kinds.{fits, capabilityRequest};
 ghost use Rattle.wire.specs.Message.{capabilityRequestAsked};
 ghost use Rattle.wire.specs.CapabilityRequest.{capabilityRequestOf, capabilityRequestAllowed};

@@ -2,15 +2,15 @@
 //
 //    8  CapabilityValue  4  1
 //   12  Result           4  top bit clear
-use crate::header::Header;
 use crate::kind::Side;
 use crate::kind::goes_to;
-use crate::layout::Fault;
 use crate::message::Asked;
-use crate::words::rest;
-use crate::words::u32_at;
+use words::header::Header;
+use words::layout::Fault;
+use words::numbers::rest;
+use words::numbers::u32_at;
 ghost use mathlib.Core.Path.{_≡_};
-ghost use Rattle.wire.specs.declared.ids.Known.the-variants.{Nothing};
+ghost use Rattle.words.specs.declared.ids.Known.the-variants.{Nothing};
 ghost use Rattle.wire.specs.Kinds.{fits, capabilityResponse};
 ghost use Rattle.wire.specs.Message.{capabilityResponseAsked};
 ghost use Rattle.wire.specs.CapabilityResponse.{capabilityResponseOf, capabilityResponseAllowed};

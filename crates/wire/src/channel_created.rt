@@ -3,15 +3,15 @@
 //   12  MajorVersion  4  1
 //   16  MinorVersion  4  0
 //   20  Capabilities  4  0
-use crate::header::Header;
 use crate::kind::Side;
 use crate::kind::calls;
-use crate::layout::Fault;
 use crate::message::Asked;
-use crate::words::rest;
-use crate::words::u32_at;
+use words::header::Header;
+use words::layout::Fault;
+use words::numbers::rest;
+use words::numbers::u32_at;
 ghost use mathlib.Core.Path.{_≡_};
-ghost use Rattle.wire.specs.declared.ids.Known.the-variants.{Nothing};
+ghost use Rattle.words.specs.declared.ids.Known.the-variants.{Nothing};
 ghost use Rattle.wire.specs.Kinds.{fits, channelCreatedByServer, channelCreatedByClient};
 ghost use Rattle.wire.specs.Message.{channelCreatedAsked};
 ghost use Rattle.wire.specs.ChannelCreated.{channelCreatedOf, channelCreatedAllowed};

@@ -1,12 +1,12 @@
 // INTERNAL_IO_CONTROL (000 2.2.6.4), kind 9: the layout of IO_CONTROL under a function number of its own.
-use crate::header::Header;
-use crate::ids::Known;
 use crate::io_control;
 use crate::kind::Side;
 use crate::kind::calls_known;
 use crate::message::Asked;
+use words::header::Header;
+use words::ids::Known;
 ghost use mathlib.Core.Path.{_≡_};
-ghost use Rattle.wire.specs.declared.ids.Known.the-variants.{Nothing};
+ghost use Rattle.words.specs.declared.ids.Known.the-variants.{Nothing};
 ghost use Rattle.wire.specs.Kinds.{fits, internalIoControl};
 ghost use Rattle.wire.specs.Message.{ioControlAsked};
 ghost use Rattle.wire.specs.IoControl.{ioControlOf};

@@ -5,19 +5,19 @@
 //   20  InputBuffer       InputBufferSize
 //    e  OutputBufferSize  4
 //  e+4  RequestId         4
-use crate::header::Header;
-use crate::ids::Known;
-use crate::ids::RequestId;
 use crate::kind::Side;
 use crate::kind::calls_known;
-use crate::layout::Fault;
-use crate::layout::Part;
 use crate::message::Asked;
 use crate::message::Request;
-use crate::words::rest;
-use crate::words::u32_at;
+use words::header::Header;
+use words::ids::Known;
+use words::ids::RequestId;
+use words::layout::Fault;
+use words::layout::Part;
+use words::numbers::rest;
+use words::numbers::u32_at;
 ghost use mathlib.Core.Path.{_≡_};
-ghost use Rattle.wire.specs.declared.ids.Known.the-variants.{Nothing};
+ghost use Rattle.words.specs.declared.ids.Known.the-variants.{Nothing};
 ghost use Rattle.wire.specs.Kinds.{fits, ioControl};
 ghost use Rattle.wire.specs.Message.{ioControlAsked};
 ghost use Rattle.wire.specs.IoControl.{ioControlOf};
@@ -83,7 +83,7 @@ pub(crate) fn read(m: &[u8]) -> IoControlRead
             size: size,
         },
         output: u32_at(m, e),
-        request: RequestId::of_word(u32_at(m, e + 4)),
+        request: RequestId::read(m, e + 4),
     })
 }
 

@@ -5,19 +5,19 @@
 //   20  Information       4
 //   24  OutputBufferSize  4
 //   28  OutputBuffer      OutputBufferSize
-use crate::header::Header;
-use crate::ids::Known;
-use crate::ids::RequestId;
 use crate::kind::Side;
 use crate::kind::calls_known;
-use crate::layout::Fault;
-use crate::layout::Part;
 use crate::message::Asked;
 use crate::message::IoCompleted;
-use crate::words::rest;
-use crate::words::u32_at;
+use words::header::Header;
+use words::ids::Known;
+use words::ids::RequestId;
+use words::layout::Fault;
+use words::layout::Part;
+use words::numbers::rest;
+use words::numbers::u32_at;
 ghost use mathlib.Core.Path.{_≡_};
-ghost use Rattle.wire.specs.declared.ids.Known.the-variants.{Nothing};
+ghost use Rattle.words.specs.declared.ids.Known.the-variants.{Nothing};
 ghost use Rattle.wire.specs.Kinds.{fits, ioControlCompletion};
 ghost use Rattle.wire.specs.Message.{ioControlCompletionAsked};
 ghost use Rattle.wire.specs.IoControlCompletion.{ioControlCompletionOf};
@@ -78,7 +78,7 @@ pub(crate) fn read(m: &[u8]) -> IoControlCompletionRead
         return IoControlCompletionRead::Fails(Fault::LeftOver(e));
     }
     IoControlCompletionRead::Fits(IoControlCompletion {
-        request: RequestId::of_word(u32_at(m, 12)),
+        request: RequestId::read(m, 12),
         result: u32_at(m, 16),
         information: u32_at(m, 20),
         size: size,

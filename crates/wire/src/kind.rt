@@ -5,8 +5,6 @@ use crate::cancel_request;
 use crate::capability_request;
 use crate::capability_response;
 use crate::channel_created;
-use crate::header::Header;
-use crate::ids::Known;
 use crate::internal_io_control;
 use crate::io_control;
 use crate::io_control_completion;
@@ -16,6 +14,8 @@ use crate::transfer_in_request;
 use crate::transfer_out_request;
 use crate::urb_completion;
 use crate::urb_completion_no_data;
+use words::header::Header;
+use words::ids::Known;
 ghost use mathlib.Core.Path.{_≡_};
 ghost use Rattle.wire.specs.Kinds.{goesTo, callsAt, callsKnown, firstFitting, kinds, deviceKinds, completionKinds, kindNumber};
 

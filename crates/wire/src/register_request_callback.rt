@@ -2,17 +2,17 @@
 //
 //   12  NumRequestCompletion  4
 //   16  RequestCompletion     4  only where the count is not 0; its low 30 bits are an interface, 4 or above
-use crate::header::Header;
-use crate::ids::InterfaceId;
-use crate::ids::Known;
 use crate::kind::Side;
 use crate::kind::calls_known;
-use crate::layout::Fault;
 use crate::message::Asked;
-use crate::words::rest;
-use crate::words::u32_at;
+use words::header::Header;
+use words::ids::InterfaceId;
+use words::ids::Known;
+use words::layout::Fault;
+use words::numbers::rest;
+use words::numbers::u32_at;
 ghost use mathlib.Core.Path.{_≡_};
-ghost use Rattle.wire.specs.declared.ids.Known.the-variants.{Nothing};
+ghost use Rattle.words.specs.declared.ids.Known.the-variants.{Nothing};
 ghost use Rattle.wire.specs.Kinds.{fits, registerRequestCallback};
 ghost use Rattle.wire.specs.Message.{registerRequestCallbackAsked};
 ghost use Rattle.wire.specs.RegisterRequestCallback.{registerRequestCallbackOf, registerRequestCallbackAllowed};
@@ -71,11 +71,10 @@ pub(crate) fn read(m: &[u8]) -> RegisterRequestCallbackRead
     if 0 < rest(m, 20) {
         return RegisterRequestCallbackRead::Fails(Fault::LeftOver(20));
     }
-    let word = u32_at(m, 16);
     RegisterRequestCallbackRead::Fits(RegisterRequestCallback {
         count: count,
-        callback: Known::Is(InterfaceId::of_word(word)),
-        mask: InterfaceId::mask_of(word),
+        callback: Known::Is(InterfaceId::read(m, 16)),
+        mask: InterfaceId::mask(m, 16),
     })
 }
 

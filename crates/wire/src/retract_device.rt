@@ -1,16 +1,16 @@
 // RETRACT_DEVICE (000 2.2.6.9), kind 14. Its interface is the device's.
 //
 //   12  Reason  4  1 (000 2.2.8)
-use crate::header::Header;
-use crate::ids::Known;
 use crate::kind::Side;
 use crate::kind::calls_known;
-use crate::layout::Fault;
 use crate::message::Asked;
-use crate::words::rest;
-use crate::words::u32_at;
+use words::header::Header;
+use words::ids::Known;
+use words::layout::Fault;
+use words::numbers::rest;
+use words::numbers::u32_at;
 ghost use mathlib.Core.Path.{_≡_};
-ghost use Rattle.wire.specs.declared.ids.Known.the-variants.{Nothing};
+ghost use Rattle.words.specs.declared.ids.Known.the-variants.{Nothing};
 ghost use Rattle.wire.specs.Kinds.{fits, retractDevice};
 ghost use Rattle.wire.specs.Message.{retractDeviceAsked};
 ghost use Rattle.wire.specs.RetractDevice.{retractDeviceOf, retractDeviceAllowed};

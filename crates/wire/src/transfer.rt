@@ -3,12 +3,12 @@
 //   12  CbTsUrb           4  at least 8
 //   16  TsUrb             CbTsUrb
 //    e  OutputBufferSize  4
-use crate::layout::Fault;
-use crate::ts_urb;
-use crate::ts_urb::TsUrb;
-use crate::ts_urb::TsUrbRead;
-use crate::words::rest;
-use crate::words::u32_at;
+use urb::ts_urb;
+use urb::ts_urb::TsUrb;
+use urb::ts_urb::TsUrbRead;
+use words::layout::Fault;
+use words::numbers::rest;
+use words::numbers::u32_at;
 ghost use mathlib.Core.Path.{_≡_};
 ghost use Prim.Native.Nat.{_≤_};
 ghost use lib.ListN.{length};

@@ -4,22 +4,22 @@
 //   16  TsUrb             CbTsUrb
 //    e  OutputBufferSize  4
 //  e+4  OutputBuffer      OutputBufferSize
-use crate::header::Header;
-use crate::ids::Known;
 use crate::kind::Side;
 use crate::kind::calls_known;
-use crate::layout::Fault;
-use crate::layout::Part;
 use crate::message::Asked;
 use crate::message::Request;
 use crate::transfer;
 use crate::transfer::Transfer;
 use crate::transfer::TransferRead;
-use crate::ts_urb;
-use crate::ts_urb::TsUrb;
-use crate::words::rest;
+use urb::ts_urb;
+use urb::ts_urb::TsUrb;
+use words::header::Header;
+use words::ids::Known;
+use words::layout::Fault;
+use words::layout::Part;
+use words::numbers::rest;
 ghost use mathlib.Core.Path.{_≡_};
-ghost use Rattle.wire.specs.declared.ids.Known.the-variants.{Nothing};
+ghost use Rattle.words.specs.declared.ids.Known.the-variants.{Nothing};
 ghost use Rattle.wire.specs.Kinds.{fits, transferOutRequest};
 ghost use Rattle.wire.specs.Message.{transferOutRequestAsked};
 ghost use Rattle.wire.specs.TransferOutRequest.{transferOutRequestOf, outgoingOf, transferOutRequestAllowed};

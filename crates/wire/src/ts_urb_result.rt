@@ -9,15 +9,14 @@
 //         28  the rest
 //    e  HResult           4
 //  e+4  OutputBufferSize  4
-use crate::ids::RequestId;
-use crate::layout::Fault;
-use crate::layout::Part;
-use crate::words::rest;
-use crate::words::u16_at;
-use crate::words::u32_at;
+use words::ids::RequestId;
+use words::layout::Fault;
+use words::layout::Part;
+use words::numbers::rest;
+use words::numbers::u16_at;
+use words::numbers::u32_at;
 ghost use mathlib.Core.Path.{_≡_};
 ghost use Prim.Native.Nat.{_≤_};
-ghost use lib.ListN.{length};
 ghost use Rattle.wire.specs.TsUrbResult.{completionOf, completedOf};
 
 pub struct TsUrbResult {
@@ -65,7 +64,6 @@ pub(crate) fn read(m: &[u8]) -> CompletionRead
 // What follows a result of `size` bytes.
 fn completed(m: &[u8], size: u32) -> CompletionRead
     requires { ⌜ 8 ≤ size ⌝ }
-    requires { ⌜ 28 ≤ length (now m) ⌝ }
     ensures { λ r. ⌜ r ≡ completedOf (now (m .entry)) size ⌝ }
 {
     let e = 20 + size as usize;
@@ -76,7 +74,7 @@ fn completed(m: &[u8], size: u32) -> CompletionRead
         return CompletionRead::Fails(Fault::RanOut(e + 4));
     }
     CompletionRead::Fits(Completion {
-        request: RequestId::of_word(u32_at(m, 12)),
+        request: RequestId::read(m, 12),
         urb: TsUrbResult {
             size: size,
             status: u32_at(m, 24),

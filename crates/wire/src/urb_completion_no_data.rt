@@ -1,21 +1,21 @@
 // URB_COMPLETION_NO_DATA (000 2.2.7.3), kind 17. Its interface is the callback's.
 //
 //   12  what ts_urb_result.rt reads, and nothing behind its OutputBufferSize
-use crate::header::Header;
-use crate::ids::Known;
-use crate::ids::RequestId;
 use crate::kind::Side;
 use crate::kind::calls_known;
-use crate::layout::Fault;
-use crate::layout::Part;
 use crate::message::Asked;
 use crate::message::UrbCompleted;
 use crate::ts_urb_result;
 use crate::ts_urb_result::CompletionRead;
 use crate::ts_urb_result::TsUrbResult;
-use crate::words::rest;
+use words::header::Header;
+use words::ids::Known;
+use words::ids::RequestId;
+use words::layout::Fault;
+use words::layout::Part;
+use words::numbers::rest;
 ghost use mathlib.Core.Path.{_≡_};
-ghost use Rattle.wire.specs.declared.ids.Known.the-variants.{Nothing};
+ghost use Rattle.words.specs.declared.ids.Known.the-variants.{Nothing};
 ghost use Rattle.wire.specs.Kinds.{fits, urbCompletionNoData};
 ghost use Rattle.wire.specs.Message.{urbCompletionNoDataAsked};
 ghost use Rattle.wire.specs.UrbCompletionNoData.{urbCompletionNoDataOf};

@@ -2,7 +2,6 @@
 use borrow.Author.Needs.{needs}
 use borrow.Author.Tests.{le-ltb, lt-ltb}
 use Rattle.wire.specs.AddDevice.{deviceOf}
-use Rattle.wire.proofs.Tests.{tests}
 use Rattle.wire.proofs.add_device.device.Statement.{statement}
 use Rattle.wire.proofs.add_device.device.Tie as tie
 
@@ -19,6 +18,5 @@ device-spec =
     (search needs)
     (search needs)
     (search needs)
-    (search needs)
     (λ c. rw (← (c .before .before .before .read .ensures), c .before .fault .given .1))
-    (λ c. rw (← (c .before .before .before .before .before .before .before .before .before .before .before .before .before .read .ensures), c .before .before .before .before .before .before .before .before .before .before .before .capabilities .given .1, ← (c .before .before .before .before .before .before .before .before .before .rest .ensures), le-ltb _ _ (c .before .before .before .before .before .before .before .before .if1 .left), ← (c .before .before .before .before .before .before .before .u32-at .ensures), ← (c .before .before .u32-at2 .ensures), ← (c .before .of-word .ensures), ← (c .mask-of .ensures))))
+    (λ c. rw (← (c .before .before .before .before .before .before .before .before .before .before .before .before .read .ensures), c .before .before .before .before .before .before .before .before .before .before .capabilities .given .1, ← (c .before .before .before .before .before .before .before .before .rest .ensures), le-ltb _ _ (c .before .before .before .before .before .before .before .if1 .left), ← (c .before .before .u32-at .ensures), ← (c .before .read2 .ensures), ← (c .mask .ensures))))

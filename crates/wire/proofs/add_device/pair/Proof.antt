@@ -1,7 +1,7 @@
 -- `wire::add_device::pair` meets its contract.
 use borrow.Author.Needs.{needs}
 use Rattle.wire.specs.AddDevice.{pairOf}
-use Rattle.wire.proofs.Tests.{tests}
+use Rattle.words.proofs.Tests.{tests}
 use Rattle.wire.proofs.add_device.pair.Statement.{statement}
 use Rattle.wire.proofs.add_device.pair.Tie as tie
 

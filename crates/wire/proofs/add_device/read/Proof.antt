@@ -1,7 +1,7 @@
 -- `wire::add_device::read` meets its contract.
 use borrow.Author.Needs.{needs}
 use Rattle.wire.specs.AddDevice.{addDeviceOf}
-use Rattle.wire.proofs.Tests.{tests}
+use Rattle.words.proofs.Tests.{tests}
 use Rattle.wire.proofs.add_device.read.Statement.{statement}
 use Rattle.wire.proofs.add_device.read.Tie as tie
 

@@ -1,7 +1,7 @@
 -- `wire::add_device::texts_allowed` meets its contract.
 use borrow.Author.Needs.{needs}
 use borrow.Author.Tests.{not-false, not-true}
-use Rattle.wire.proofs.Tests.{tests}
+use Rattle.words.proofs.Tests.{tests}
 use Rattle.wire.proofs.add_device.texts_allowed.Statement.{statement}
 use Rattle.wire.proofs.add_device.texts_allowed.Tie as tie
 

@@ -1,7 +1,7 @@
 -- `wire::add_virtual_channel::read` meets its contract.
 use borrow.Author.Needs.{needs}
 use Rattle.wire.specs.AddVirtualChannel.{addVirtualChannelOf}
-use Rattle.wire.proofs.Tests.{tests}
+use Rattle.words.proofs.Tests.{tests}
 use Rattle.wire.proofs.add_virtual_channel.read.Statement.{statement}
 use Rattle.wire.proofs.add_virtual_channel.read.Tie as tie
 

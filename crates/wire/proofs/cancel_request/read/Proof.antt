@@ -1,7 +1,7 @@
--- `wire::cancel_request::read` meets its contract.
+-- `wire::cancel_request::read` meets its contract: its tests are those of the layout.
 use borrow.Author.Needs.{needs}
+use borrow.Author.Tests.{le-ltb, lt-ltb}
 use Rattle.wire.specs.CancelRequest.{cancelRequestOf}
-use Rattle.wire.proofs.Tests.{tests}
 use Rattle.wire.proofs.cancel_request.read.Statement.{statement}
 use Rattle.wire.proofs.cancel_request.read.Tie as tie
 
@@ -11,9 +11,8 @@ read-spec =
     tie.close
     (tie.spec
     (search needs)
-    (λ c. search (tests, ← (c .before .rest .ensures)))
+    (λ c. rw (← (c .before .rest .ensures), lt-ltb _ _ (c .if1 .taken)))
     (search needs)
-    (λ c. search (tests, ← (c .before .before .before .rest .ensures), ← (c .before .rest2 .ensures)))
+    (λ c. rw (← (c .before .before .before .rest .ensures), le-ltb _ _ (c .before .before .if1 .left), ← (c .before .rest2 .ensures), lt-ltb _ _ (c .if2 .taken)))
     (search needs)
-    (search needs)
-    (λ c. search (tests, ← (c .before .before .before .before .before .rest .ensures), ← (c .before .before .before .rest2 .ensures), ← (c .before .u32-at .ensures), ← (c .of-word .ensures))))
+    (λ c. rw (← (c .before .before .before .before .rest .ensures), le-ltb _ _ (c .before .before .before .if1 .left), ← (c .before .before .rest2 .ensures), le-ltb _ _ (c .before .if2 .left), ← (c .read .ensures))))

@@ -1,7 +1,7 @@
 -- `wire::capability_request::read` meets its contract.
 use borrow.Author.Needs.{needs}
 use Rattle.wire.specs.CapabilityRequest.{capabilityRequestOf}
-use Rattle.wire.proofs.Tests.{tests}
+use Rattle.words.proofs.Tests.{tests}
 use Rattle.wire.proofs.capability_request.read.Statement.{statement}
 use Rattle.wire.proofs.capability_request.read.Tie as tie
 

@@ -1,6 +1,6 @@
 -- `wire::capability_response::allowed` meets its contract.
 use borrow.Author.Needs.{needs}
-use Rattle.wire.proofs.Tests.{tests}
+use Rattle.words.proofs.Tests.{tests}
 use Rattle.wire.proofs.capability_response.allowed.Statement.{statement}
 use Rattle.wire.proofs.capability_response.allowed.Tie as tie
 

@@ -1,7 +1,7 @@
 -- `wire::capability_response::read` meets its contract.
 use borrow.Author.Needs.{needs}
 use Rattle.wire.specs.CapabilityResponse.{capabilityResponseOf}
-use Rattle.wire.proofs.Tests.{tests}
+use Rattle.words.proofs.Tests.{tests}
 use Rattle.wire.proofs.capability_response.read.Statement.{statement}
 use Rattle.wire.proofs.capability_response.read.Tie as tie
 

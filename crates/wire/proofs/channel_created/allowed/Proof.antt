@@ -1,6 +1,6 @@
 -- `wire::channel_created::allowed` meets its contract.
 use borrow.Author.Needs.{needs}
-use Rattle.wire.proofs.Tests.{tests}
+use Rattle.words.proofs.Tests.{tests}
 use Rattle.wire.proofs.channel_created.allowed.Statement.{statement}
 use Rattle.wire.proofs.channel_created.allowed.Tie as tie
 

@@ -1,7 +1,7 @@
 -- `wire::channel_created::read` meets its contract.
 use borrow.Author.Needs.{needs}
 use Rattle.wire.specs.ChannelCreated.{channelCreatedOf}
-use Rattle.wire.proofs.Tests.{tests}
+use Rattle.words.proofs.Tests.{tests}
 use Rattle.wire.proofs.channel_created.read.Statement.{statement}
 use Rattle.wire.proofs.channel_created.read.Tie as tie
 

@@ -1,8 +1,7 @@
--- `wire::io_control::read` meets its contract.
+-- `wire::io_control::read` meets its contract: its tests are those of the layout.
 use borrow.Author.Needs.{needs}
 use borrow.Author.Tests.{le-ltb, lt-ltb}
 use Rattle.wire.specs.IoControl.{ioControlOf, ioControlWith}
-use Rattle.wire.proofs.Tests.{tests}
 use Rattle.wire.proofs.io_control.read.Statement.{statement}
 use Rattle.wire.proofs.io_control.read.Tie as tie
 
@@ -34,5 +33,4 @@ read-spec =
     (search needs)
     (search needs)
     (search needs)
-    (search needs)
-    (λ c. rw (← (c .before .before .before .before .before .before .before .before .before .before .before .before .before .before .before .before .rest .ensures), le-ltb _ _ (c .before .before .before .before .before .before .before .before .before .before .before .before .before .before .before .if1 .left), ← (c .before .before .before .before .before .before .before .before .before .before .before .before .before .before .rest2 .ensures), le-ltb _ _ (c .before .before .before .before .before .before .before .before .before .before .before .before .before .if2 .left), ← (c .before .before .before .before .before .before .before .before .before .before .before .before .u32-at .ensures), ← (c .before .before .before .before .before .before .before .before .before .before .before .rest3 .ensures), le-ltb _ _ (c .before .before .before .before .before .before .before .before .before .before .if3 .left), ← (c .before .before .before .before .before .before .before .before .before .rest4 .ensures), le-ltb _ _ (c .before .before .before .before .before .before .before .before .if4 .left), ← (c .before .before .before .before .before .before .before .rest5 .ensures), le-ltb _ _ (c .before .before .before .before .before .before .if5 .left), ← (c .before .before .before .before .before .rest6 .ensures), le-ltb _ _ (c .before .before .before .before .if6 .left), ← (c .before .before .before .u32-at2 .ensures), ← (c .before .before .u32-at3 .ensures), ← (c .before .u32-at4 .ensures), ← (c .of-word .ensures))))
+    (λ c. rw (← (c .before .before .before .before .before .before .before .before .before .before .before .before .before .before .before .rest .ensures), le-ltb _ _ (c .before .before .before .before .before .before .before .before .before .before .before .before .before .before .if1 .left), ← (c .before .before .before .before .before .before .before .before .before .before .before .before .before .rest2 .ensures), le-ltb _ _ (c .before .before .before .before .before .before .before .before .before .before .before .before .if2 .left), ← (c .before .before .before .before .before .before .before .before .before .before .before .u32-at .ensures), ← (c .before .before .before .before .before .before .before .before .before .before .rest3 .ensures), le-ltb _ _ (c .before .before .before .before .before .before .before .before .before .if3 .left), ← (c .before .before .before .before .before .before .before .before .rest4 .ensures), le-ltb _ _ (c .before .before .before .before .before .before .before .if4 .left), ← (c .before .before .before .before .before .before .rest5 .ensures), le-ltb _ _ (c .before .before .before .before .before .if5 .left), ← (c .before .before .before .before .rest6 .ensures), le-ltb _ _ (c .before .before .before .if6 .left), ← (c .before .before .u32-at2 .ensures), ← (c .before .u32-at3 .ensures), ← (c .read .ensures))))

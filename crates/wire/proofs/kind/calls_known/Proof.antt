@@ -1,6 +1,6 @@
 -- `wire::kind::calls_known` meets its contract.
 use borrow.Author.Needs.{needs}
-use Rattle.wire.proofs.Tests.{tests}
+use Rattle.words.proofs.Tests.{tests}
 use Rattle.wire.proofs.kind.calls_known.Statement.{statement}
 use Rattle.wire.proofs.kind.calls_known.Tie as tie
 

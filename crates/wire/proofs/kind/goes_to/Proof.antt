@@ -1,6 +1,6 @@
 -- `wire::kind::goes_to` meets its contract: the three tests are those of `goesTo`.
 use borrow.Author.Needs.{needs}
-use Rattle.wire.proofs.Tests.{tests}
+use Rattle.words.proofs.Tests.{tests}
 use Rattle.wire.proofs.kind.goes_to.Statement.{statement}
 use Rattle.wire.proofs.kind.goes_to.Tie as tie
 

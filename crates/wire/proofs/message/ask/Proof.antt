@@ -1,7 +1,7 @@
 -- `wire::message::ask` meets its contract.
 use borrow.Author.Needs.{needs}
 use Rattle.wire.specs.Message.{askedOf}
-use Rattle.wire.proofs.Tests.{tests}
+use Rattle.words.proofs.Tests.{tests}
 use Rattle.wire.proofs.message.ask.Statement.{statement}
 use Rattle.wire.proofs.message.ask.Tie as tie
 

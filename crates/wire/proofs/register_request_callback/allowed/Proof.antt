@@ -1,6 +1,6 @@
 -- `wire::register_request_callback::allowed` meets its contract.
 use borrow.Author.Needs.{needs}
-use Rattle.wire.proofs.Tests.{tests}
+use Rattle.words.proofs.Tests.{tests}
 use Rattle.wire.proofs.register_request_callback.allowed.Statement.{statement}
 use Rattle.wire.proofs.register_request_callback.allowed.Tie as tie
 

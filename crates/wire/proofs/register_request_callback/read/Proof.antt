@@ -1,7 +1,7 @@
 -- `wire::register_request_callback::read` meets its contract.
 use borrow.Author.Needs.{needs}
 use Rattle.wire.specs.RegisterRequestCallback.{registerRequestCallbackOf}
-use Rattle.wire.proofs.Tests.{tests}
+use Rattle.words.proofs.Tests.{tests}
 use Rattle.wire.proofs.register_request_callback.read.Statement.{statement}
 use Rattle.wire.proofs.register_request_callback.read.Tie as tie
 
@@ -22,5 +22,4 @@ read-spec =
     (λ c. search (tests, ← (c .before .before .before .before .before .before .before .rest .ensures), ← (c .before .before .before .before .before .u32-at .ensures), ← (c .before .before .before .rest3 .ensures), ← (c .before .rest4 .ensures)))
     (search needs)
     (search needs)
-    (search needs)
-    (λ c. search (tests, ← (c .before .before .before .before .before .before .before .before .before .before .rest .ensures), ← (c .before .before .before .before .before .before .before .before .u32-at .ensures), ← (c .before .before .before .before .before .before .rest3 .ensures), ← (c .before .before .before .before .rest4 .ensures), ← (c .before .before .u32-at2 .ensures), ← (c .before .of-word .ensures), ← (c .mask-of .ensures))))
+    (λ c. search (tests, ← (c .before .before .before .before .before .before .before .before .before .rest .ensures), ← (c .before .before .before .before .before .before .before .u32-at .ensures), ← (c .before .before .before .before .before .rest3 .ensures), ← (c .before .before .before .rest4 .ensures), ← (c .before .read .ensures), ← (c .mask .ensures))))

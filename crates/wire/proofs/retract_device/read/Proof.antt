@@ -1,7 +1,7 @@
 -- `wire::retract_device::read` meets its contract.
 use borrow.Author.Needs.{needs}
 use Rattle.wire.specs.RetractDevice.{retractDeviceOf}
-use Rattle.wire.proofs.Tests.{tests}
+use Rattle.words.proofs.Tests.{tests}
 use Rattle.wire.proofs.retract_device.read.Statement.{statement}
 use Rattle.wire.proofs.retract_device.read.Tie as tie
 

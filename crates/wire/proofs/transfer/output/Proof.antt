@@ -1,7 +1,7 @@
 -- `wire::transfer::output` meets its contract.
 use borrow.Author.Needs.{needs}
 use Rattle.wire.specs.Transfer.{outputOf}
-use Rattle.wire.proofs.Tests.{tests}
+use Rattle.words.proofs.Tests.{tests}
 use Rattle.wire.proofs.transfer.output.Statement.{statement}
 use Rattle.wire.proofs.transfer.output.Tie as tie
 

@@ -6,7 +6,7 @@ use lib.Seq.{length-take-le}
 use native.Mathlib.Omega.{arith}
 use borrow.Author.Needs.{needs}
 use Rattle.wire.specs.Transfer.{transferOf, transferWith}
-use Rattle.wire.proofs.Tests.{tests}
+use Rattle.words.proofs.Tests.{tests}
 use Rattle.wire.proofs.transfer.read.Statement.{statement}
 use Rattle.wire.proofs.transfer.read.Tie as tie
 

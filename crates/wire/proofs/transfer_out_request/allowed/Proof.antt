@@ -2,7 +2,7 @@
 use borrow.Author.Needs.{needs}
 use borrow.Author.Tests.{not-false, not-true}
 use Rattle.wire.specs.TransferOutRequest.{transferOutRequestAllowed}
-use Rattle.wire.proofs.Tests.{tests}
+use Rattle.words.proofs.Tests.{tests}
 use Rattle.wire.proofs.transfer_out_request.allowed.Statement.{statement}
 use Rattle.wire.proofs.transfer_out_request.allowed.Tie as tie
 

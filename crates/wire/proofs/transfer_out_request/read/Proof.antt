@@ -1,7 +1,7 @@
 -- `wire::transfer_out_request::read` meets its contract.
 use borrow.Author.Needs.{needs}
 use Rattle.wire.specs.TransferOutRequest.{transferOutRequestOf}
-use Rattle.wire.proofs.Tests.{tests}
+use Rattle.words.proofs.Tests.{tests}
 use Rattle.wire.proofs.transfer_out_request.read.Statement.{statement}
 use Rattle.wire.proofs.transfer_out_request.read.Tie as tie
 

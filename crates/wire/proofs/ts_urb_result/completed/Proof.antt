@@ -1,8 +1,7 @@
--- `wire::ts_urb_result::completed` meets its contract.
+-- `wire::ts_urb_result::completed` meets its contract: its tests are those of the layout.
 use borrow.Author.Needs.{needs}
 use borrow.Author.Tests.{le-ltb, lt-ltb}
 use Rattle.wire.specs.TsUrbResult.{completedOf}
-use Rattle.wire.proofs.Tests.{tests}
 use Rattle.wire.proofs.ts_urb_result.completed.Statement.{statement}
 use Rattle.wire.proofs.ts_urb_result.completed.Tie as tie
 
@@ -25,5 +24,4 @@ completed-spec =
     (search needs)
     (search needs)
     (search needs)
-    (search needs)
-    (λ c. rw (← (c .before .before .before .before .before .before .before .before .rest .ensures), le-ltb _ _ (c .before .before .before .before .before .before .before .if1 .left), ← (c .before .before .before .before .before .before .rest2 .ensures), le-ltb _ _ (c .before .before .before .before .before .if2 .left), ← (c .before .before .before .before .u32-at .ensures), ← (c .before .before .before .of-word .ensures), ← (c .before .before .u32-at2 .ensures), ← (c .before .u32-at3 .ensures), ← (c .u32-at4 .ensures))))
+    (λ c. rw (← (c .before .before .before .before .before .before .before .rest .ensures), le-ltb _ _ (c .before .before .before .before .before .before .if1 .left), ← (c .before .before .before .before .before .rest2 .ensures), le-ltb _ _ (c .before .before .before .before .if2 .left), ← (c .before .before .before .read .ensures), ← (c .before .before .u32-at .ensures), ← (c .before .u32-at2 .ensures), ← (c .u32-at3 .ensures))))

@@ -1,7 +1,7 @@
 -- `wire::ts_urb_result::read` meets its contract.
 use borrow.Author.Needs.{needs}
 use Rattle.wire.specs.TsUrbResult.{completionOf, completionWith}
-use Rattle.wire.proofs.Tests.{tests}
+use Rattle.words.proofs.Tests.{tests}
 use Rattle.wire.proofs.ts_urb_result.read.Statement.{statement}
 use Rattle.wire.proofs.ts_urb_result.read.Tie as tie
 

@@ -1,7 +1,7 @@
 -- `wire::urb_completion::read` meets its contract.
 use borrow.Author.Needs.{needs}
 use Rattle.wire.specs.UrbCompletion.{urbCompletionOf}
-use Rattle.wire.proofs.Tests.{tests}
+use Rattle.words.proofs.Tests.{tests}
 use Rattle.wire.proofs.urb_completion.read.Statement.{statement}
 use Rattle.wire.proofs.urb_completion.read.Tie as tie
 

@@ -1,7 +1,7 @@
 -- `wire::urb_completion::with_output` meets its contract.
 use borrow.Author.Needs.{needs}
 use Rattle.wire.specs.UrbCompletion.{withOutputOf}
-use Rattle.wire.proofs.Tests.{tests}
+use Rattle.words.proofs.Tests.{tests}
 use Rattle.wire.proofs.urb_completion.with_output.Statement.{statement}
 use Rattle.wire.proofs.urb_completion.with_output.Tie as tie
 

@@ -1,7 +1,7 @@
 -- `wire::urb_completion_no_data::read` meets its contract.
 use borrow.Author.Needs.{needs}
 use Rattle.wire.specs.UrbCompletionNoData.{urbCompletionNoDataOf}
-use Rattle.wire.proofs.Tests.{tests}
+use Rattle.words.proofs.Tests.{tests}
 use Rattle.wire.proofs.urb_completion_no_data.read.Statement.{statement}
 use Rattle.wire.proofs.urb_completion_no_data.read.Tie as tie
 

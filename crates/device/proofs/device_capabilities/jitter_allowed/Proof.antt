@@ -1,0 +1,13 @@
+-- `device::device_capabilities::jitter_allowed` meets its contract.
+use borrow.Author.Needs.{needs}
+use Rattle.words.proofs.Tests.{tests}
+use Rattle.device.proofs.device_capabilities.jitter_allowed.Statement.{statement}
+use Rattle.device.proofs.device_capabilities.jitter_allowed.Tie as tie
+
+pub jitter-allowed-spec : {M : Type 1} → statement M
+jitter-allowed-spec =
+    tie.close
+    (tie.spec
+    (λ c. search tests)
+    (λ c. search tests)
+    (λ c. search tests))

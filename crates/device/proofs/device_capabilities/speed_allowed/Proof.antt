@@ -1,0 +1,13 @@
+-- `device::device_capabilities::speed_allowed` meets its contract.
+use borrow.Author.Needs.{needs}
+use Rattle.words.proofs.Tests.{tests}
+use Rattle.device.proofs.device_capabilities.speed_allowed.Statement.{statement}
+use Rattle.device.proofs.device_capabilities.speed_allowed.Tie as tie
+
+pub speed-allowed-spec : {M : Type 1} → statement M
+speed-allowed-spec =
+    tie.close
+    (tie.spec
+    (λ c. search tests)
+    (λ c. search tests)
+    (λ c. search tests))

@@ -1,0 +1,12 @@
+-- `device::device_capabilities::usbdi_allowed` meets its contract.
+use borrow.Author.Needs.{needs}
+use Rattle.words.proofs.Tests.{tests}
+use Rattle.device.proofs.device_capabilities.usbdi_allowed.Statement.{statement}
+use Rattle.device.proofs.device_capabilities.usbdi_allowed.Tie as tie
+
+pub usbdi-allowed-spec : {M : Type 1} → statement M
+usbdi-allowed-spec =
+    tie.close
+    (tie.spec
+    (λ c. search tests)
+    (λ c. search tests))

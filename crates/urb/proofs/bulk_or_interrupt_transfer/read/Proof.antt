@@ -1,0 +1,15 @@
+-- `urb::bulk_or_interrupt_transfer::read` meets its contract.
+use borrow.Author.Needs.{needs}
+use Rattle.words.proofs.Tests.{tests}
+use Rattle.urb.proofs.bulk_or_interrupt_transfer.read.Statement.{statement}
+use Rattle.urb.proofs.bulk_or_interrupt_transfer.read.Tie as tie
+
+pub read-spec : {M : Type 1} → statement M
+read-spec =
+    tie.close
+    (tie.spec
+    (search needs)
+    (λ c. search (tests, ← (c .before .rest .ensures)))
+    (search needs)
+    (search needs)
+    (λ c. search (tests, ← (c .before .before .before .rest .ensures), ← (c .before .u32-at .ensures), ← (c .u32-at2 .ensures))))

@@ -1,0 +1,13 @@
+-- `urb::get_current_frame_number::read` meets its contract.
+use borrow.Author.Needs.{needs}
+use Rattle.words.proofs.Tests.{tests}
+use Rattle.urb.proofs.get_current_frame_number.read.Statement.{statement}
+use Rattle.urb.proofs.get_current_frame_number.read.Tie as tie
+
+pub read-spec : {M : Type 1} → statement M
+read-spec =
+    tie.close
+    (tie.spec
+    (search needs)
+    (λ c. search (tests, ← (c .before .rest .ensures)))
+    (λ c. search (tests, ← (c .before .rest .ensures))))

@@ -1,0 +1,16 @@
+-- `urb::interfaces::interface_field` meets its contract.
+use borrow.Author.Needs.{needs}
+use Rattle.words.proofs.Tests.{tests}
+use Rattle.urb.proofs.interfaces.interface_field.Statement.{statement}
+use Rattle.urb.proofs.interfaces.interface_field.Tie as tie
+
+pub interface-field-spec : {M : Type 1} → statement M
+interface-field-spec =
+    tie.close
+    (tie.spec
+    (λ c. search tests)
+    (λ c. search tests)
+    (λ c. search tests)
+    (λ c. search tests)
+    (λ c. search tests)
+    (λ c. search tests))

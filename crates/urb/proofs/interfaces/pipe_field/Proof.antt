@@ -1,0 +1,14 @@
+-- `urb::interfaces::pipe_field` meets its contract.
+use borrow.Author.Needs.{needs}
+use Rattle.words.proofs.Tests.{tests}
+use Rattle.urb.proofs.interfaces.pipe_field.Statement.{statement}
+use Rattle.urb.proofs.interfaces.pipe_field.Tie as tie
+
+pub pipe-field-spec : {M : Type 1} → statement M
+pipe-field-spec =
+    tie.close
+    (tie.spec
+    (λ c. search tests)
+    (λ c. search tests)
+    (λ c. search tests)
+    (λ c. search tests))

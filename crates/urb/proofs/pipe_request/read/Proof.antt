@@ -1,0 +1,14 @@
+-- `urb::pipe_request::read` meets its contract.
+use borrow.Author.Needs.{needs}
+use Rattle.words.proofs.Tests.{tests}
+use Rattle.urb.proofs.pipe_request.read.Statement.{statement}
+use Rattle.urb.proofs.pipe_request.read.Tie as tie
+
+pub read-spec : {M : Type 1} → statement M
+read-spec =
+    tie.close
+    (tie.spec
+    (search needs)
+    (λ c. search (tests, ← (c .before .rest .ensures)))
+    (search needs)
+    (λ c. search (tests, ← (c .before .before .rest .ensures), ← (c .u32-at .ensures))))

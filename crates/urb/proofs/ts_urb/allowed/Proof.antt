@@ -1,0 +1,29 @@
+-- `urb::ts_urb::allowed` meets its contract.
+use borrow.Author.Needs.{needs}
+use Rattle.words.proofs.Tests.{tests}
+use Rattle.urb.proofs.ts_urb.allowed.Statement.{statement}
+use Rattle.urb.proofs.ts_urb.allowed.Tie as tie
+
+pub allowed-spec : {M : Type 1} → statement M
+allowed-spec =
+    tie.close
+    (tie.spec
+    (search needs)
+    (search needs)
+    (search needs)
+    (search needs)
+    (search needs)
+    (search needs)
+    (search needs)
+    (search needs)
+    (search needs)
+    (search needs)
+    (search needs)
+    (λ c. search (tests, c .before .before .urb .given .1, ← (c .allowed .ensures)))
+    (λ c. search (tests, c .before .before .urb2 .given .1, ← (c .allowed2 .ensures)))
+    (λ c. search (tests, c .enum-told .given .1))
+    (λ c. search (tests, c .enum-told2 .given .1))
+    (λ c. search (tests, c .enum-told3 .given .1))
+    (λ c. search (tests, c .enum-told4 .given .1))
+    (λ c. search (tests, c .before .before .urb3 .given .1, ← (c .allowed3 .ensures)))
+    (λ c. search (tests, c .enum-told5 .given .1)))

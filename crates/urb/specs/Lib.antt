@@ -1,0 +1,5 @@
+pub mod Interfaces
+pub mod SelectConfiguration
+pub mod SelectInterface
+pub mod IsochTransfer
+pub mod TsUrb

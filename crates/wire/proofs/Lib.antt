@@ -1,6 +1,0 @@
-pub mod Asked
-pub mod Blind
-pub mod Determined
-pub mod Laws
-pub mod Tests
-pub mod Walk

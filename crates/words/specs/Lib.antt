@@ -1,0 +1,4 @@
+pub mod Words
+pub mod Ids
+pub mod Layout
+pub mod Header
