@@ -2,14 +2,10 @@
 use Prim.Native.Nat.{ℕ, _+_, _*_, _≤_}
 use mathlib.Core.Bool.{cond}
 use lib.Dec.{eqb}
-use Rattle.words.specs.declared.layout.Part.{Part}
-use Rattle.device.specs.declared.text.Text.{Text}
-use Rattle.urb.specs.declared.ts_urb.Urb.{Urb}
-use Rattle.urb.specs.declared.ts_urb.Urb.the-variants.{SelectConfiguration, SelectInterface, GetCurrentFrameNumber, PipeRequest, BulkOrInterruptTransfer, ControlTransfer, IsochTransfer, Unknown}
+use Rattle.words.specs.Layout.{Within}
+use Rattle.device.specs.Sizes.{textSize}
+use Rattle.urb.specs.Sizes.{UrbWithin}
 use Rattle.wire.specs.Reading.{Body, capabilityRequestBody, capabilityResponseBody, channelCreatedBody, addVirtualChannelBody, addDeviceBody, cancelRequestBody, registerRequestCallbackBody, ioControlBody, transferInRequestBody, transferOutRequestBody, retractDeviceBody, ioControlCompletionBody, urbCompletionBody, urbCompletionNoDataBody}
-
-abbrev pub textSize : Text → ℕ
-textSize t = 4 + 2 * t .count
 
 -- the length of a message with a body: its header and its fields
 abbrev pub lengthOf : Body → ℕ
@@ -27,20 +23,6 @@ lengthOf (retractDeviceBody b) = 16
 lengthOf (ioControlCompletionBody b) = 28 + b .size
 lengthOf (urbCompletionBody b) = 20 + b .urb .size + 8 + b .size
 lengthOf (urbCompletionNoDataBody b) = 20 + b .urb .size + 8
-
--- a part lies within n bytes
-abbrev pub Within : ℕ → Part → Type 0
-Within n p = p .start + p .size ≤ n
-
-abbrev pub UrbWithin : ℕ → Urb → Type 0
-UrbWithin n (SelectConfiguration b) = Within n (b .interfaces) × Within n (b .descriptor .part)
-UrbWithin n (SelectInterface b) = Within n (b .interface)
-UrbWithin n GetCurrentFrameNumber = Unit {0}
-UrbWithin n (PipeRequest b) = Unit {0}
-UrbWithin n (BulkOrInterruptTransfer b) = Unit {0}
-UrbWithin n (ControlTransfer b) = Within n (b .setup)
-UrbWithin n (IsochTransfer b) = Within n (b .list)
-UrbWithin n Unknown = Unit {0}
 
 -- every part of a body lies within n bytes
 abbrev pub PartsWithin : ℕ → Body → Type 0

@@ -1,10 +1,11 @@
 -- How sizes are held against a message: in message order, and the first that fails is told (01 "Bodies", answer 7).
 -- `fails` makes the answer of the reader at hand out of the fault.
-use Prim.Native.Nat.{ℕ, _-_}
+use Prim.Native.Nat.{ℕ, _+_, _-_, _≤_}
 use mathlib.Core.List.{List}
 use mathlib.Core.Bool.{Bool, true, false, cond}
 use lib.ListN.{length}
 use lib.Dec.{ltb}
+use Rattle.words.specs.declared.layout.Part.{Part}
 use Rattle.words.specs.declared.layout.Fault.{Fault}
 use Rattle.words.specs.declared.layout.Fault.the-variants.{RanOut, Disagrees, LeftOver}
 
@@ -31,3 +32,7 @@ ended fails m at next = cond (ltb 0 (left m at)) (fails (LeftOver at)) next
 -- what was read up to a place fills what was set aside for it
 abbrev pub filled : {A : Type 0} → (Fault → A) → ℕ → ℕ → A → A
 filled fails at end next = cond (ltb at end) (fails (LeftOver at)) next
+
+-- a part lies within n bytes
+abbrev pub Within : ℕ → Part → Type 0
+Within n p = p .start + p .size ≤ n
