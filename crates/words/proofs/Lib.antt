@@ -1,3 +1,4 @@
+pub mod Determined
 pub mod End
 pub mod Steps
 pub mod Tests
