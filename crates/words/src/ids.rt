@@ -36,7 +36,7 @@ impl InterfaceId {
     pub fn number(self) -> u32
         ensures { λ r. ⌜ r ≡ self .0 ⌝ }
     {
-        self.0
+        self.0 // of 30 bits
     }
 }
 
@@ -50,7 +50,7 @@ impl MessageId {
     pub fn number(self) -> u32
         ensures { λ r. ⌜ r ≡ self .0 ⌝ }
     {
-        self.0
+        self.0 // of 32 bits
     }
 }
 
@@ -79,6 +79,6 @@ impl RequestId {
     pub fn number(self) -> u32
         ensures { λ r. ⌜ r ≡ self .0 ⌝ }
     {
-        self.0
+        self.0 // of 31 bits in a TsUrb, of 32 elsewhere
     }
 }
