@@ -4,6 +4,7 @@ use wire::kind::Kind;
 use wire::kind::KindFound;
 use wire::message;
 use wire::message::Asked;
+use wire::message::IoCompleted;
 use wire::message::Request;
 use words::header;
 use words::header::Header;
@@ -51,11 +52,7 @@ fn of_asked(asked: Asked) {
         Asked::TransferOut(r) => of_request(r),
         Asked::Cancel(request) => of_cancel(request),
         Asked::Retract => plain(),
-        Asked::IoCompletion(c) => {
-            let request = c.request;
-            let part = c.payload;
-            sized(request, c.size, part);
-        }
+        Asked::IoCompletion(c) => of_io_completion(c),
         Asked::UrbCompletion(c) => {
             let request = c.request;
             let part = c.payload;
@@ -113,6 +110,17 @@ fn of_request(r: Request) {
         io::write_all(1, b" noack");
     }
     named(b" size", r.size);
+    payload(part);
+}
+
+fn of_io_completion(c: IoCompleted) {
+    let request = c.request;
+    let part = c.payload;
+    io::write_all(1, b" fits");
+    named(b" request", request.number());
+    named(b" result", c.result);
+    named(b" information", c.information);
+    named(b" size", c.size);
     payload(part);
 }
 

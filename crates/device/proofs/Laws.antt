@@ -18,7 +18,7 @@ use Rattle.device.specs.declared.device_capabilities.CapabilitiesRead.th
 use Rattle.words.proofs.Steps.{by-test, field-by}
 
 abbrev pub TextGood : List ℕ → ℕ → TextRead → Type 0
-TextGood m at (text.Fits t end) = (end ≡ at + textSize t) × (end ≤ length m) × Within (length m) (t .units)
+TextGood m at (text.Fits t end) = (end ≡ at + textSize t) × (end ≤ length m) × (8 ≤ at → Within (length m) (t .units))
 TextGood m at (text.Fails f) = Unit {0}
 
 abbrev pub CapabilitiesGood : List ℕ → ℕ → CapabilitiesRead → Type 0
@@ -29,7 +29,7 @@ pub text-good : (m : List ℕ) (at : ℕ) → TextGood m at (textOf m at)
 unfolding textOf unitsOf
 text-good m at =
     field-by text.Fails (TextGood m at) (λ f. tt) m at 4 _ λ a. field-by text.Fails (TextGood m at) (λ f. tt) m (at + 4) (2 * wordAt m at) _ λ b.
-    (omega arith, omega arith, omega arith)
+    (omega arith, omega arith, λ h. (omega arith, omega arith))
 
 pub capabilities-good : (m : List ℕ) (at : ℕ) → CapabilitiesGood m at (capabilitiesOf m at)
 unfolding capabilitiesOf

@@ -14,7 +14,7 @@ use Rattle.words.specs.declared.layout.Fault.the-variants.{RanOut}
 unfoldable pub capabilitiesOf : List ℕ → ℕ → CapabilitiesRead
 capabilitiesOf m at =
     cond (ltb (left m at) 28) (Fails (RanOut (at + left m at / 4 * 4)))
-    (Fits (record { size = wordAt m at; bus = wordAt m (at + 4); usbdi = wordAt m (at + 8); usb = wordAt m (at + 12); host = wordAt m (at + 16); speed = wordAt m (at + 20); noack = wordAt m (at + 24) }) (at + 28))
+    (Fits (record { size = wordAt m at; bus = wordAt m (at + 4); usbdi = wordAt m (at + 8); usb = wordAt m (at + 12); host = wordAt m (at + 16); speed = wordAt m (at + 20); jitter = wordAt m (at + 24) }) (at + 28))
 
 abbrev pub usbdiAllowed : ℕ → Bool
 usbdiAllowed version = eqb version 0x500 || eqb version 0x600
@@ -35,4 +35,4 @@ abbrev pub jitterAllowed : ℕ → Bool
 jitterAllowed ms = eqb ms 0 || (leb 10 ms && leb ms 512)
 
 unfoldable pub capabilitiesAllowed : DeviceCapabilities → Bool
-capabilitiesAllowed c = eqb (c .size) 28 && (versionsAllowed c && (eqb (c .host) 0 && (speedAllowed c && jitterAllowed (c .noack))))
+capabilitiesAllowed c = eqb (c .size) 28 && (versionsAllowed c && (eqb (c .host) 0 && (speedAllowed c && jitterAllowed (c .jitter))))

@@ -30,5 +30,5 @@ abbrev pub textAllowed : Text → Bool
 textAllowed t = leb (t .count) 512 && eqb (t .last) 0
 
 -- the hardware and compatible ids: with two units or more they end in two units 0
-abbrev pub textsAllowed : Text → Bool
-textsAllowed t = leb (t .count) 512 && (eqb (t .last) 0 && eqb (t .prior) 0)
+abbrev pub listAllowed : Text → Bool
+listAllowed t = textAllowed t && eqb (t .prior) 0

@@ -20,7 +20,7 @@ pub struct DeviceCapabilities {
     pub usb: u32,
     pub host: u32,
     pub speed: u32,
-    pub noack: u32,
+    pub jitter: u32,
 }
 
 // The capabilities and the byte behind them.
@@ -44,7 +44,7 @@ pub fn read(m: &[u8], at: usize) -> CapabilitiesRead
             usb: u32_at(m, at + 12),
             host: u32_at(m, at + 16),
             speed: u32_at(m, at + 20),
-            noack: u32_at(m, at + 24),
+            jitter: u32_at(m, at + 24),
         },
         at + 28,
     )
@@ -65,7 +65,7 @@ pub fn allowed(c: DeviceCapabilities) -> bool
     if !speed_allowed(c) {
         return false;
     }
-    jitter_allowed(c.noack)
+    jitter_allowed(c.jitter)
 }
 
 fn versions_allowed(c: DeviceCapabilities) -> bool

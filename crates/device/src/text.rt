@@ -10,7 +10,7 @@ use words::numbers::u32_at;
 ghost use mathlib.Core.Path.{_≡_};
 ghost use Prim.Native.Nat.{_*_, _≤_};
 ghost use lib.ListN.{length};
-ghost use Rattle.device.specs.Text.{textOf, lastUnit, priorUnit, textAllowed, textsAllowed};
+ghost use Rattle.device.specs.Text.{textOf, lastUnit, priorUnit, textAllowed, listAllowed};
 
 pub struct Text {
     pub count: u32,
@@ -89,14 +89,11 @@ pub fn allowed(t: Text) -> bool
     t.last == 0
 }
 
-// A list of texts: it ends in two units 0, if it has two.
+// A list of texts ends so too, and in two units 0, if it has two.
 pub fn list_allowed(t: Text) -> bool
-    ensures { λ r. ⌜ r ≡ textsAllowed t ⌝ }
+    ensures { λ r. ⌜ r ≡ listAllowed t ⌝ }
 {
-    if Text::MOST < t.count {
-        return false;
-    }
-    if t.last != 0 {
+    if !allowed(t) {
         return false;
     }
     t.prior == 0

@@ -7,7 +7,7 @@ use lib.ListN.{length}
 use lib.Dec.{eqb}
 use Rattle.words.specs.Words.{byteAt, halfAt, wordAt}
 use Rattle.words.specs.Layout.{left}
-use Rattle.urb.specs.Sizes.{UrbWithin}
+use Rattle.urb.specs.Sizes.{UrbWithin, urbLength}
 use Rattle.urb.specs.Interfaces.{interfacesOf}
 use Rattle.urb.specs.SelectConfiguration.{descriptorOf, configurationWith, configurationOf, configurationFrom, selectConfigurationOf}
 use Rattle.urb.specs.SelectInterface.{interfaceFrom, selectInterfaceOf}
@@ -26,19 +26,19 @@ use Rattle.words.proofs.Steps.{either, field-by, agrees-by, atLeast-by}
 use Rattle.urb.proofs.Walk.{interfaces-end}
 
 abbrev StructureGood : List ℕ → StructureRead → Type 0
-StructureGood u (structure.Fits urb end) = UrbWithin (length u) urb
+StructureGood u (structure.Fits urb end) = UrbWithin (length u) urb × (16 ≤ length u → (end ≡ 16 + urbLength (left u 16) urb) × (end ≤ length u))
 StructureGood u (structure.Fails f) = Unit {0}
 
 abbrev pub TsUrbGood : List ℕ → TsUrbRead → Type 0
-TsUrbGood u (ts.Fits t end) = (t .size ≡ left u 16) × UrbWithin (length u) (t .urb)
+TsUrbGood u (ts.Fits t end) = (t .size ≡ left u 16) × UrbWithin (length u) (t .urb) × (16 ≤ length u → (end ≡ 16 + urbLength (left u 16) (t .urb)) × (end ≤ length u))
 TsUrbGood u (ts.Fails f) = Unit {0}
 
 configuration-with-good : (u : List ℕ) (end pipes : ℕ) → 32 ≤ end → end ≤ length u → StructureGood u (configurationOf u (wordAt u 28) end pipes)
 unfolding configurationOf descriptorOf
 configuration-with-good u end pipes a b =
     either (λ r. StructureGood u (configurationWith u (wordAt u 28) end pipes r)) (eqb (byteAt u 24) 0) _ _
-    (λ e. (omega arith, omega arith))
-    (λ e. field-by descriptor.Fails (λ r. StructureGood u (configurationWith u (wordAt u 28) end pipes r)) (λ f. tt) u end 9 _ λ k. (omega arith, omega arith))
+    (λ e. (((omega arith, omega arith), (omega arith, omega arith)), λ h. (omega arith, omega arith)))
+    (λ e. field-by descriptor.Fails (λ r. StructureGood u (configurationWith u (wordAt u 28) end pipes r)) (λ f. tt) u end 9 _ λ k. (((omega arith, omega arith), (omega arith, omega arith)), λ h. (omega arith, omega arith)))
 
 configuration-from-good : (u : List ℕ) (w : Walk) → 32 ≤ length u → interfacesOf u (wordAt u 28) 0 32 ≡ w → StructureGood u (configurationFrom u w)
 configuration-from-good u (walk.End end pipes) h e = let q = interfaces-end u (wordAt u 28) 0 32 end pipes e in configuration-with-good u end pipes (q .0) (q .1 h)
@@ -51,7 +51,7 @@ select-configuration-good u =
     configuration-from-good u (interfacesOf u (wordAt u 28) 0 32) (omega arith) refl
 
 interface-from-good : (u : List ℕ) (w : Walk) → 28 ≤ length u → interfacesOf u 1 0 28 ≡ w → StructureGood u (interfaceFrom u w)
-interface-from-good u (walk.End end pipes) h e = let q = interfaces-end u 1 0 28 end pipes e in let r = q .1 h in omega (arith, q .0)
+interface-from-good u (walk.End end pipes) h e = let q = interfaces-end u 1 0 28 end pipes e in let r = q .1 h in ((omega arith, omega (arith, q .0)), λ k. (omega (arith, q .0), omega arith))
 interface-from-good u (walk.Fails f) h e = tt
 
 select-interface-good : (u : List ℕ) → StructureGood u (selectInterfaceOf u)
@@ -61,12 +61,12 @@ select-interface-good u = field-by structure.Fails (StructureGood u) (λ f. tt) 
 isoch-transfer-good : (u : List ℕ) → StructureGood u (isochTransferOf u)
 unfolding isochTransferOf
 isoch-transfer-good u =
-    atLeast-by structure.Fails (StructureGood u) (λ f. tt) 24 (left u 16) 16 _ λ a. agrees-by structure.Fails (StructureGood u) (λ f. tt) (left u 16) (28 + 12 * wordAt u 36) 16 _ λ b. omega arith
+    atLeast-by structure.Fails (StructureGood u) (λ f. tt) 24 (left u 16) 16 _ λ a. agrees-by structure.Fails (StructureGood u) (λ f. tt) (left u 16) (28 + 12 * wordAt u 36) 16 _ λ b. ((omega arith, omega arith), λ h. (omega arith, omega arith))
 
 -- the one-size table, row by row: where a row's structure is read, the TsUrb has that row's size
 module _ (u : List ℕ) (function : ℕ) where
   RowGood : OneSize → Type 0
-  RowGood row = left u 16 ≡ row .size → UrbWithin (length u) (row .structure u)
+  RowGood row = left u 16 ≡ row .size → StructureGood u (structure.Fits (row .structure u) (length u))
 
   AllRows : List OneSize → Type 0
   AllRows [] = Unit {0}
@@ -74,7 +74,7 @@ module _ (u : List ℕ) (function : ℕ) where
 
   rows-good : (rows : List OneSize) → AllRows rows → StructureGood u (rowOf rows u function)
   unfolding AllRows RowGood
-  rows-good [] g = tt
+  rows-good [] g = (tt, λ h. (omega arith, omega arith))
   rows-good (row ∷ rows) g =
       either (StructureGood u) (eqb function (row .function)) _ _
       (λ e. agrees-by structure.Fails (StructureGood u) (λ f. tt) (left u 16) (row .size) 16 _ λ a. g .0 a)
@@ -82,7 +82,7 @@ module _ (u : List ℕ) (function : ℕ) where
 
   one-size-good : StructureGood u (oneSizeOf u function)
   unfolding oneSizeOf AllRows RowGood
-  one-size-good = rows-good oneSizes (λ e. tt, (λ e. tt, (λ e. tt, (λ e. tt, (λ e. omega arith, tt)))))
+  one-size-good = rows-good oneSizes (λ e. (tt, λ h. (omega arith, omega arith)), (λ e. (tt, λ h. (omega arith, omega arith)), (λ e. (tt, λ h. (omega arith, omega arith)), (λ e. (tt, λ h. (omega arith, omega arith)), (λ e. ((omega arith, omega arith), λ h. (omega arith, omega arith)), tt)))))
 
   structure-good : StructureGood u (structureOf u function)
   unfolding structureOf
@@ -93,7 +93,7 @@ module _ (u : List ℕ) (function : ℕ) where
       (λ e. one-size-good)))
 
 urb-with-good : (u : List ℕ) (r : StructureRead) → halfAt u 16 ≡ left u 16 → StructureGood u r → TsUrbGood u (urbWith u r)
-urb-with-good u (structure.Fits urb end) e g = (e, g)
+urb-with-good u (structure.Fits urb end) e g = (e, g .0, g .1)
 urb-with-good u (structure.Fails f) e g = tt
 
 pub ts-urb-good : (u : List ℕ) → TsUrbGood u (tsUrbOf u)
@@ -102,11 +102,11 @@ ts-urb-good u = agrees-by ts.Fails (TsUrbGood u) (λ f. tt) (halfAt u 16) (left 
 
 -- what lies within n bytes lies within more
 pub urb-wider : (n k : ℕ) (urb : Urb) → n ≤ k → UrbWithin n urb → UrbWithin k urb
-urb-wider n k (SelectConfiguration b) h g = (omega (arith, g .0), omega (arith, g .1))
-urb-wider n k (SelectInterface b) h g = omega arith
+urb-wider n k (SelectConfiguration b) h g = ((g .0 .0, omega (arith, g .0 .1)), (g .1 .0, omega (arith, g .1 .1)))
+urb-wider n k (SelectInterface b) h g = (g .0, omega (arith, g .1))
 urb-wider n k GetCurrentFrameNumber h g = tt
 urb-wider n k (PipeRequest b) h g = tt
 urb-wider n k (BulkOrInterruptTransfer b) h g = tt
-urb-wider n k (ControlTransfer b) h g = omega arith
-urb-wider n k (IsochTransfer b) h g = omega arith
+urb-wider n k (ControlTransfer b) h g = (g .0, omega (arith, g .1))
+urb-wider n k (IsochTransfer b) h g = (g .0, omega (arith, g .1))
 urb-wider n k Unknown h g = tt

@@ -6,7 +6,7 @@ use lib.ListN.{length}
 use lib.Dec.{ltb, leb, eqb}
 use Rattle.words.specs.Words.{byteAt, wordAt}
 use Rattle.words.specs.Layout.{left, field}
-use Rattle.urb.specs.Interfaces.{interfacesOf}
+use Rattle.urb.specs.Interfaces.{pipesAllowed, interfacesOf}
 use Rattle.urb.specs.declared.select_configuration.SelectConfiguration.{SelectConfiguration}
 use Rattle.urb.specs.declared.select_configuration.DescriptorRead.{DescriptorRead}
 use Rattle.urb.specs.declared.select_configuration.DescriptorRead.the-variants as descriptor
@@ -44,4 +44,4 @@ selectConfigurationOf u =
 
 -- at most 32 interfaces, of at most 30 pipes each; the descriptor's first two bytes are 9 and 2
 abbrev pub selectConfigurationAllowed : SelectConfiguration → Bool
-selectConfigurationAllowed b = leb (b .count) 32 && (leb (b .pipes) 30 && (eqb (b .flag) 0 || (eqb (b .descriptor .first) 9 && eqb (b .descriptor .second) 2)))
+selectConfigurationAllowed b = leb (b .count) 32 && (pipesAllowed (b .pipes) && (eqb (b .flag) 0 || (eqb (b .descriptor .first) 9 && eqb (b .descriptor .second) 2)))

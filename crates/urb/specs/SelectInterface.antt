@@ -2,10 +2,9 @@
 use Prim.Native.Nat.{ℕ, _+_, _-_}
 use mathlib.Core.List.{List}
 use mathlib.Core.Bool.{Bool}
-use lib.Dec.{leb}
 use Rattle.words.specs.Words.{wordAt}
 use Rattle.words.specs.Layout.{field}
-use Rattle.urb.specs.Interfaces.{interfacesOf}
+use Rattle.urb.specs.Interfaces.{pipesAllowed, interfacesOf}
 use Rattle.urb.specs.declared.select_interface.SelectInterface.{SelectInterface}
 use Rattle.urb.specs.declared.interfaces.Walk.{Walk}
 use Rattle.urb.specs.declared.interfaces.Walk.the-variants as walk
@@ -22,4 +21,4 @@ selectInterfaceOf u = field Fails u 24 4 (interfaceFrom u (interfacesOf u 1 0 28
 
 -- at most 30 pipes
 abbrev pub selectInterfaceAllowed : SelectInterface → Bool
-selectInterfaceAllowed b = leb (b .pipes) 30
+selectInterfaceAllowed b = pipesAllowed (b .pipes)

@@ -13,7 +13,7 @@ use words::numbers::u16_at;
 use words::numbers::u32_at;
 ghost use mathlib.Core.Path.{_≡_};
 ghost use Prim.Native.Nat.{_≤_};
-ghost use Rattle.urb.specs.Interfaces.{interfaceField, pipeField, larger, lengthAgrees, interfacesOf, pipesOf};
+ghost use Rattle.urb.specs.Interfaces.{pipesAllowed, interfaceField, pipeField, larger, lengthAgrees, interfacesOf, pipesOf};
 
 // Where a list ends and the largest NumberOfPipes in it, or what broke.
 pub enum Walk {
@@ -25,6 +25,13 @@ pub struct Interfaces {}
 
 impl Interfaces {
     pub const MOST_PIPES: u32 = 30;
+}
+
+// The limit of an interface's pipes.
+pub(crate) fn pipes_allowed(pipes: u32) -> bool
+    ensures { λ r. ⌜ r ≡ pipesAllowed pipes ⌝ }
+{
+    pipes <= Interfaces::MOST_PIPES
 }
 
 // The start of the field of an interface that `left` bytes no longer hold.
@@ -80,7 +87,7 @@ fn length_agrees(length: u32, pipes: u32) -> bool
 
 // `left` interfaces from `at` on. The largest pipe count so far is `most`.
 //
-// The two readers call each other in tail position: a list of any length is read in constant stack.
+// The two readers call each other in tail position, one call for each interface and each pipe (docs/DECISIONS.md, 13, has the stack that they take).
 pub(crate) fn interface(s: &[u8], at: usize, left: u32, most: u32) -> Walk
     ensures { λ r. ⌜ r ≡ interfacesOf (now (s .entry)) left most at ⌝ }
 {

@@ -7,7 +7,6 @@
 //    e  USB_CONFIGURATION_DESCRIPTOR    the rest, at least 9 bytes, only where the flag is not 0
 //         its first two bytes are 9 and 2
 use crate::interfaces;
-use crate::interfaces::Interfaces;
 use crate::interfaces::Walk;
 use crate::ts_urb::StructureRead;
 use crate::ts_urb::Urb;
@@ -127,7 +126,7 @@ pub(crate) fn allowed(b: SelectConfiguration) -> bool
     if SelectConfiguration::MOST_INTERFACES < b.count {
         return false;
     }
-    if Interfaces::MOST_PIPES < b.pipes {
+    if !interfaces::pipes_allowed(b.pipes) {
         return false;
     }
     if b.flag == 0 {

@@ -3,7 +3,6 @@
 //   24  ConfigurationHandle  4
 //   28  one interface
 use crate::interfaces;
-use crate::interfaces::Interfaces;
 use crate::interfaces::Walk;
 use crate::ts_urb::StructureRead;
 use crate::ts_urb::Urb;
@@ -51,5 +50,5 @@ pub(crate) fn read(u: &[u8]) -> StructureRead
 pub(crate) fn allowed(b: SelectInterface) -> bool
     ensures { λ r. ⌜ r ≡ selectInterfaceAllowed b ⌝ }
 {
-    b.pipes <= Interfaces::MOST_PIPES
+    interfaces::pipes_allowed(b.pipes)
 }

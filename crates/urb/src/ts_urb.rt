@@ -56,7 +56,7 @@ pub enum TsUrbRead {
     Fails(Fault),
 }
 
-// The TsUrb of a message that is cut where its TsUrb ends.
+// The TsUrb of a message that is cut where its TsUrb ends. That CbTsUrb is at least 8 is the transfer's question.
 pub fn read(u: &[u8]) -> TsUrbRead
     ensures { λ r. ⌜ r ≡ tsUrbOf (now (u .entry)) ⌝ }
 {
@@ -150,7 +150,7 @@ pub fn only_in(urb: Urb) -> bool
 }
 
 // The function that may come with NoAck.
-pub fn may_skip_ack(urb: Urb) -> bool
+pub fn may_no_ack(urb: Urb) -> bool
     ensures { λ r. ⌜ r ≡ mayNoAck urb ⌝ }
 {
     match urb {

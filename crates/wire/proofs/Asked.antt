@@ -1,11 +1,10 @@
 -- What the table relies on: the payload that a message asks for lies within it, and its bytes decide nothing that is asked.
-use Prim.Native.Nat.{ℕ, _+_, _≤_}
+use Prim.Native.Nat.{ℕ, _+_, _≤_, _<_}
 use native.Mathlib.Omega.{arith}
 use mathlib.Core.Path.{_≡_, refl, sym, ap}
 use mathlib.Core.List.{List}
 use mathlib.Core.Bool.{Bool, true, false, cond}
 use lib.ListN.{length}
-use Rattle.words.specs.Layout.{Within}
 use Rattle.wire.specs.Payload.{payloadPart, AgreeOutside}
 use Rattle.wire.specs.Message.{askedOf, capabilityRequestAsked, capabilityResponseAsked, channelCreatedAsked, addVirtualChannelAsked, addDeviceAsked, cancelRequestAsked, registerRequestCallbackAsked, ioControlAsked, transferInRequestAsked, transferOutRequestAsked, retractDeviceAsked, ioControlCompletionAsked, urbCompletionAsked, urbCompletionNoDataAsked}
 use Rattle.wire.specs.Reading.{capabilityRequestReading, capabilityResponseReading, channelCreatedReading, addVirtualChannelReading, addDeviceReading, cancelRequestReading, registerRequestCallbackReading, ioControlReading, transferInRequestReading, transferOutRequestReading, retractDeviceReading, ioControlCompletionReading, urbCompletionReading, urbCompletionNoDataReading}
@@ -58,12 +57,12 @@ use Rattle.wire.specs.declared.kind.Kind.the-variants as kind
 use Rattle.wire.proofs.Laws.{Good, capability-request-good, capability-response-good, channel-created-good, add-virtual-channel-good, add-device-good, cancel-request-good, register-request-callback-good, io-control-good, transfer-in-request-good, transfer-out-request-good, retract-device-good, io-control-completion-good, urb-completion-good, urb-completion-no-data-good}
 use Rattle.wire.proofs.Blind.{Blind, none, capability-request-blind, capability-response-blind, channel-created-blind, add-virtual-channel-blind, add-device-blind, cancel-request-blind, register-request-callback-blind, io-control-blind, transfer-in-request-blind, transfer-out-request-blind, retract-device-blind, io-control-completion-blind, urb-completion-blind, urb-completion-no-data-blind}
 
--- what is shown of an answer: its payload lies within the message
+-- what is shown of an answer: its payload lies within the message and, unless it is empty, behind the header
 abbrev Lies : List ℕ → Asked → Type 0
-Lies m a = Within (length m) (payloadPart a)
+Lies m a = (payloadPart a .start + payloadPart a .size ≤ length m) × (0 < payloadPart a .size → 12 ≤ payloadPart a .start)
 
-none-lies : (m : List ℕ) → 0 + 0 ≤ length m
-none-lies m = omega arith
+none-lies : (m : List ℕ) → (0 + 0 ≤ length m) × (0 < 0 → 12 ≤ 0)
+none-lies m = (omega arith, λ h. omega arith)
 
 -- an answer that is refused for a value has no payload
 checked-lies : (m : List ℕ) (t : Bool) (a : Asked) → Lies m a → Lies m (cond t a Value)
@@ -99,7 +98,7 @@ register-request-callback-lies m (registerRequestCallback.Fits b) g = checked-li
 register-request-callback-lies m (registerRequestCallback.Fails f) g = none-lies m
 
 io-control-lies : (m : List ℕ) (r : IoControlRead) → Good m (ioControlReading r) → Lies m (ioControlAsked r)
-io-control-lies m (ioControl.Fits b) g = g .1
+io-control-lies m (ioControl.Fits b) g = (g .1 .1, λ h. g .1 .0)
 io-control-lies m (ioControl.Fails f) g = none-lies m
 
 transfer-in-request-lies : (m : List ℕ) (r : TransferInRequestRead) → Good m (transferInRequestReading r) → Lies m (transferInRequestAsked r)
@@ -107,7 +106,7 @@ transfer-in-request-lies m (transferInRequest.Fits b) g = checked-lies m (transf
 transfer-in-request-lies m (transferInRequest.Fails f) g = none-lies m
 
 transfer-out-request-lies : (m : List ℕ) (r : TransferOutRequestRead) → Good m (transferOutRequestReading r) → Lies m (transferOutRequestAsked r)
-transfer-out-request-lies m (transferOutRequest.Fits b) g = checked-lies m (transferOutRequestAllowed b) _ (g .1 .1)
+transfer-out-request-lies m (transferOutRequest.Fits b) g = checked-lies m (transferOutRequestAllowed b) _ (g .1 .1 .1, λ h. g .1 .1 .0)
 transfer-out-request-lies m (transferOutRequest.Fails f) g = none-lies m
 
 retract-device-lies : (m : List ℕ) (r : RetractDeviceRead) → Good m (retractDeviceReading r) → Lies m (retractDeviceAsked r)
@@ -115,19 +114,19 @@ retract-device-lies m (retractDevice.Fits b) g = checked-lies m (retractDeviceAl
 retract-device-lies m (retractDevice.Fails f) g = none-lies m
 
 io-control-completion-lies : (m : List ℕ) (r : IoControlCompletionRead) → Good m (ioControlCompletionReading r) → Lies m (ioControlCompletionAsked r)
-io-control-completion-lies m (ioControlCompletion.Fits b) g = g .1
+io-control-completion-lies m (ioControlCompletion.Fits b) g = (g .1 .1, λ h. g .1 .0)
 io-control-completion-lies m (ioControlCompletion.Fails f) g = none-lies m
 
 urb-completion-lies : (m : List ℕ) (r : UrbCompletionRead) → Good m (urbCompletionReading r) → Lies m (urbCompletionAsked r)
-urb-completion-lies m (urbCompletion.Fits b) g = checked-lies m (urbCompletionAllowed b) _ (g .1 .1)
+urb-completion-lies m (urbCompletion.Fits b) g = checked-lies m (urbCompletionAllowed b) _ (g .1 .1 .1, λ h. g .1 .1 .0)
 urb-completion-lies m (urbCompletion.Fails f) g = none-lies m
 
 urb-completion-no-data-lies : (m : List ℕ) (r : UrbCompletionNoDataRead) → Good m (urbCompletionNoDataReading r) → Lies m (urbCompletionNoDataAsked r)
 urb-completion-no-data-lies m (urbCompletionNoData.Fits b) g = none-lies m
 urb-completion-no-data-lies m (urbCompletionNoData.Fails f) g = none-lies m
 
--- The payload of what a message asks lies within the message.
-pub asked-within : (k : Kind) (m : List ℕ) → Within (length m) (payloadPart (askedOf k m))
+-- The payload of what a message asks lies within the message and, unless it is empty, behind its header.
+pub asked-within : (k : Kind) (m : List ℕ) → (payloadPart (askedOf k m) .start + payloadPart (askedOf k m) .size ≤ length m) × (0 < payloadPart (askedOf k m) .size → 12 ≤ payloadPart (askedOf k m) .start)
 unfolding askedOf
 asked-within kind.CapabilityRequest m = capability-request-lies m (capabilityRequestOf m) (capability-request-good m)
 asked-within kind.CapabilityResponse m = capability-response-lies m (capabilityResponseOf m) (capability-response-good m)

@@ -11,8 +11,8 @@ use borrow.Author.Tests.{ltb-true, ltb-false, eqb-true}
 use Rattle.words.specs.Words.{byteAt, halfAt, wordAt}
 use Rattle.words.specs.Layout.{left, Within}
 use Rattle.device.specs.Sizes.{textSize}
-use Rattle.urb.specs.Sizes.{UrbWithin}
-use Rattle.wire.specs.Sizes.{lengthOf, PartsWithin}
+use Rattle.urb.specs.Sizes.{UrbWithin, urbLength}
+use Rattle.wire.specs.Sizes.{resultLength, lengthOf, PartsWithin}
 use Rattle.wire.specs.CapabilityRequest.{capabilityRequestOf}
 use Rattle.wire.specs.CapabilityResponse.{capabilityResponseOf}
 use Rattle.wire.specs.ChannelCreated.{channelCreatedOf}
@@ -135,11 +135,13 @@ PairGood m at (pair.Fits p end) = (end ≡ at + textSize (p .first) + textSize (
 PairGood m at (pair.Fails f) = Unit {0}
 
 abbrev TransferGood : List ℕ → TransferRead → Type 0
-TransferGood m (transfer.Fits t) = (t .after ≡ 16 + t .urb .size + 4) × (t .after ≤ length m) × UrbWithin (length m) (t .urb .urb)
+TransferGood m (transfer.Fits t) =
+    (t .after ≡ t .end + 4) × (t .after ≤ length m) × UrbWithin (length m) (t .urb .urb) ×
+    (t .last ≡ 16 + urbLength (t .urb .size) (t .urb .urb)) × (t .last ≤ t .end) × (16 ≤ t .end)
 TransferGood m (transfer.Fails f) = Unit {0}
 
 abbrev CompletionGood : List ℕ → CompletionRead → Type 0
-CompletionGood m (completion.Fits c) = (c .after ≡ 20 + c .urb .size + 8) × (c .after ≤ length m) × Within (length m) (c .urb .rest)
+CompletionGood m (completion.Fits c) = (c .after ≡ 20 + resultLength (c .urb) + 8) × (c .after ≤ length m) × Within (length m) (c .urb .rest)
 CompletionGood m (completion.Fails f) = Unit {0}
 
 -- the fixed layouts
@@ -180,26 +182,26 @@ unfolding ioControlOf ioControlWith
 io-control-good m =
     field-by ioControl.Fails (GoodIoControl m) (λ f. tt) m 12 4 _ λ a. field-by ioControl.Fails (GoodIoControl m) (λ f. tt) m 16 4 _ λ b. field-by ioControl.Fails (GoodIoControl m) (λ f. tt) m 20 (wordAt m 16) _ λ c.
     field-by ioControl.Fails (GoodIoControl m) (λ f. tt) m (20 + wordAt m 16) 4 _ λ d. field-by ioControl.Fails (GoodIoControl m) (λ f. tt) m (20 + wordAt m 16 + 4) 4 _ λ e.
-    ended-by ioControl.Fails (GoodIoControl m) (λ f. tt) m (20 + wordAt m 16 + 8) _ λ z. (λ h. omega arith, omega arith)
+    ended-by ioControl.Fails (GoodIoControl m) (λ f. tt) m (20 + wordAt m 16 + 8) _ λ z. (λ h. omega arith, (omega arith, omega arith))
 
 pub io-control-completion-good : (m : List ℕ) → GoodIoControlCompletion m (ioControlCompletionOf m)
 unfolding ioControlCompletionOf ioControlCompletionWith
 io-control-completion-good m =
     field-by ioControlCompletion.Fails (GoodIoControlCompletion m) (λ f. tt) m 12 4 _ λ a. field-by ioControlCompletion.Fails (GoodIoControlCompletion m) (λ f. tt) m 16 4 _ λ b. field-by ioControlCompletion.Fails (GoodIoControlCompletion m) (λ f. tt) m 20 4 _ λ c. field-by ioControlCompletion.Fails (GoodIoControlCompletion m) (λ f. tt) m 24 4 _ λ d.
-    field-by ioControlCompletion.Fails (GoodIoControlCompletion m) (λ f. tt) m 28 (wordAt m 24) _ λ e. ended-by ioControlCompletion.Fails (GoodIoControlCompletion m) (λ f. tt) m (28 + wordAt m 24) _ λ z. (λ h. omega arith, omega arith)
+    field-by ioControlCompletion.Fails (GoodIoControlCompletion m) (λ f. tt) m 28 (wordAt m 24) _ λ e. ended-by ioControlCompletion.Fails (GoodIoControlCompletion m) (λ f. tt) m (28 + wordAt m 24) _ λ z. (λ h. omega arith, (omega arith, omega arith))
 
 -- ADD_DEVICE
-pair-with-good : (m : List ℕ) (at middle : ℕ) (first : Text) (r : TextRead) → middle ≡ at + textSize first → Within (length m) (first .units) → TextGood m middle r → PairGood m at (pairWith first r)
-pair-with-good m at middle first (text.Fits second end) e w g = (omega arith, g .1, w, g .2)
-pair-with-good m at middle first (text.Fails f) e w g = tt
+pair-with-good : (m : List ℕ) (at middle : ℕ) (first : Text) (r : TextRead) → 8 ≤ at → middle ≡ at + textSize first → Within (length m) (first .units) → TextGood m middle r → PairGood m at (pairWith first r)
+pair-with-good m at middle first (text.Fits second end) h e w g = (omega arith, g .1, w, g .2 (omega arith))
+pair-with-good m at middle first (text.Fails f) h e w g = tt
 
-pair-from-good : (m : List ℕ) (at : ℕ) (r : TextRead) → TextGood m at r → PairGood m at (pairFrom m r)
-pair-from-good m at (text.Fits first middle) g = pair-with-good m at middle first (textOf m middle) (g .0) (g .2) (text-good m middle)
-pair-from-good m at (text.Fails f) g = tt
+pair-from-good : (m : List ℕ) (at : ℕ) (r : TextRead) → 8 ≤ at → TextGood m at r → PairGood m at (pairFrom m r)
+pair-from-good m at (text.Fits first middle) h g = pair-with-good m at middle first (textOf m middle) h (g .0) (g .2 h) (text-good m middle)
+pair-from-good m at (text.Fails f) h g = tt
 
-pair-good : (m : List ℕ) (at : ℕ) → PairGood m at (pairOf m at)
+pair-good : (m : List ℕ) (at : ℕ) → 8 ≤ at → PairGood m at (pairOf m at)
 unfolding pairOf
-pair-good m at = pair-from-good m at (textOf m at) (text-good m at)
+pair-good m at h = pair-from-good m at (textOf m at) h (text-good m at)
 
 device-with-good : (m : List ℕ) (names classes : TextPair) (middle at : ℕ) (r : CapabilitiesRead) → PairGood m 20 (pair.Fits names middle) → PairGood m middle (pair.Fits classes at) → CapabilitiesGood m at r → GoodAddDevice m (deviceWith m names classes r)
 device-with-good m names classes middle at (capabilities.Fits c end) n k g = ended-by addDevice.Fails (GoodAddDevice m) (λ f. tt) m end _ λ z. (λ h. omega (arith, n .0, k .0, g .0, g .1), (n .2, n .3, k .2, k .3))
@@ -214,19 +216,21 @@ classes-good m names middle (pair.Fits classes at) n g = device-good m names cla
 classes-good m names middle (pair.Fails f) n g = tt
 
 names-good : (m : List ℕ) (r : PairRead) → PairGood m 20 r → GoodAddDevice m (namesFrom m r)
-names-good m (pair.Fits names middle) g = classes-good m names middle (pairOf m middle) g (pair-good m middle)
+names-good m (pair.Fits names middle) g = classes-good m names middle (pairOf m middle) g (pair-good m middle (omega (arith, g .0)))
 names-good m (pair.Fails f) g = tt
 
 pub add-device-good : (m : List ℕ) → GoodAddDevice m (addDeviceOf m)
 unfolding addDeviceOf
-add-device-good m = field-by addDevice.Fails (GoodAddDevice m) (λ f. tt) m 12 4 _ λ a. field-by addDevice.Fails (GoodAddDevice m) (λ f. tt) m 16 4 _ λ b. names-good m (pairOf m 20) (pair-good m 20)
+add-device-good m = field-by addDevice.Fails (GoodAddDevice m) (λ f. tt) m 12 4 _ λ a. field-by addDevice.Fails (GoodAddDevice m) (λ f. tt) m 16 4 _ λ b. names-good m (pairOf m 20) (pair-good m 20 (omega arith))
 
 -- the transfers
 transfer-from-good : (m : List ℕ) (n : ℕ) (r : TsUrbRead) → 8 ≤ n → n ≤ left m 16 → TsUrbGood (take (16 + n) m) r → TransferGood m (transferFrom m (16 + n) r)
 unfolding outputOf
 transfer-from-good m n (ts.Fits t last) a b g =
     let l = length-take-le (16 + n) m (omega arith) in
-    field-by transfer.Fails (TransferGood m) (λ f. tt) m (16 + n) 4 _ λ c. (omega (arith, g .0), omega arith, urb-wider (length (take (16 + n) m)) (length m) (t .urb) (omega arith) (g .1))
+    field-by transfer.Fails (TransferGood m) (λ f. tt) m (16 + n) 4 _ λ c.
+    let k = g .2 (omega arith) in
+    (refl, omega arith, urb-wider (length (take (16 + n) m)) (length m) (t .urb) (omega arith) (g .1), rw (g .0) (k .0), omega (arith, k .1), omega arith)
 transfer-from-good m n (ts.Fails f) a b g = tt
 
 transfer-good : (m : List ℕ) → TransferGood m (transferOf m)
@@ -236,7 +240,7 @@ transfer-good m =
     transfer-from-good m (wordAt m 12) (tsUrbOf (take (16 + wordAt m 12) m)) b c (ts-urb-good (take (16 + wordAt m 12) m))
 
 incoming-good : (m : List ℕ) (r : TransferRead) → TransferGood m r → GoodTransferInRequest m (incomingFrom m r)
-incoming-good m (transfer.Fits t) g = filled-by transferInRequest.Fails (GoodTransferInRequest m) (λ f. tt) (t .last) (t .end) _ λ a. ended-by transferInRequest.Fails (GoodTransferInRequest m) (λ f. tt) m (t .after) _ λ z. (λ h. omega (arith, g .0, g .1), g .2)
+incoming-good m (transfer.Fits t) g = filled-by transferInRequest.Fails (GoodTransferInRequest m) (λ f. tt) (t .last) (t .end) _ λ a. ended-by transferInRequest.Fails (GoodTransferInRequest m) (λ f. tt) m (t .after) _ λ z. (λ h. omega (arith, g .0, g .1, g .3, g .4), g .2)
 incoming-good m (transfer.Fails f) g = tt
 
 pub transfer-in-request-good : (m : List ℕ) → GoodTransferInRequest m (transferInRequestOf m)
@@ -247,7 +251,7 @@ outgoing-good : (m : List ℕ) (r : TransferRead) → TransferGood m r → GoodT
 unfolding outgoingOf
 outgoing-good m (transfer.Fits t) g =
     field-by transferOutRequest.Fails (GoodTransferOutRequest m) (λ f. tt) m (t .after) (t .size) _ λ a. filled-by transferOutRequest.Fails (GoodTransferOutRequest m) (λ f. tt) (t .last) (t .end) _ λ b. ended-by transferOutRequest.Fails (GoodTransferOutRequest m) (λ f. tt) m (t .after + t .size) _ λ z.
-    (λ h. omega (arith, g .0, g .1), (g .2, omega (arith, g .1)))
+    (λ h. omega (arith, g .0, g .1, g .3, g .4), (g .2, (omega (arith, g .0, g .5), omega (arith, g .1))))
 outgoing-good m (transfer.Fails f) g = tt
 
 pub transfer-out-request-good : (m : List ℕ) → GoodTransferOutRequest m (transferOutRequestOf m)
@@ -262,13 +266,13 @@ completion-good m =
     atLeast-by completion.Fails (CompletionGood m) (λ f. tt) 8 (wordAt m 16) 16 _ λ c. field-by completion.Fails (CompletionGood m) (λ f. tt) m 20 (wordAt m 16) _ λ d.
     agrees-by completion.Fails (CompletionGood m) (λ f. tt) (halfAt m 20) (wordAt m 16) 20 _ λ e.
     field-by completion.Fails (CompletionGood m) (λ f. tt) m (20 + wordAt m 16) 4 _ λ g. field-by completion.Fails (CompletionGood m) (λ f. tt) m (20 + wordAt m 16 + 4) 4 _ λ k.
-    (refl, omega arith, omega arith)
+    (omega arith, omega arith, (omega arith, omega arith))
 
 with-output-good : (m : List ℕ) (r : CompletionRead) → CompletionGood m r → GoodUrbCompletion m (withOutputFrom m r)
 unfolding withOutputOf
 with-output-good m (completion.Fits c) g =
     field-by urbCompletion.Fails (GoodUrbCompletion m) (λ f. tt) m (c .after) (c .size) _ λ a. ended-by urbCompletion.Fails (GoodUrbCompletion m) (λ f. tt) m (c .after + c .size) _ λ z.
-    (λ h. omega (arith, g .0, g .1), (g .2, omega (arith, g .1)))
+    (λ h. omega (arith, g .0, g .1), (g .2, (omega (arith, g .0), omega (arith, g .1))))
 with-output-good m (completion.Fails f) g = tt
 
 pub urb-completion-good : (m : List ℕ) → GoodUrbCompletion m (urbCompletionOf m)

@@ -4,9 +4,9 @@ use mathlib.Core.List.{List}
 use mathlib.Core.Bool.{Bool, _&&_}
 use lib.Dec.{eqb, leb}
 use Rattle.words.specs.Words.{wordAt}
-use Rattle.words.specs.Ids.{interfaceIn, maskIn}
+use Rattle.words.specs.Ids.{assignable, interfaceIn, maskIn}
 use Rattle.words.specs.Layout.{field, ended}
-use Rattle.device.specs.Text.{textOf, textAllowed, textsAllowed}
+use Rattle.device.specs.Text.{textOf, textAllowed, listAllowed}
 use Rattle.device.specs.DeviceCapabilities.{capabilitiesOf, capabilitiesAllowed}
 use Rattle.device.specs.declared.text.Text.{Text}
 use Rattle.device.specs.declared.text.TextRead.{TextRead}
@@ -36,7 +36,7 @@ pairOf m at = pairFrom m (textOf m at)
 abbrev pub deviceWith : List ℕ → TextPair → TextPair → CapabilitiesRead → AddDeviceRead
 deviceWith m names classes (capabilities.Fits c end) =
     ended Fails m end
-    (Fits (record { count = wordAt m 12; device = interfaceIn (wordAt m 16); mask = maskIn (wordAt m 16); instance = names .first; hardware = names .second; compatible = classes .first; container = classes .second; capabilities = c }))
+    (Fits (record { count = wordAt m 12; device = interfaceIn (wordAt m 16); top = maskIn (wordAt m 16); instance = names .first; hardware = names .second; compatible = classes .first; container = classes .second; capabilities = c }))
 deviceWith m names classes (capabilities.Fails fault) = Fails fault
 
 unfoldable pub deviceOf : List ℕ → TextPair → TextPair → ℕ → AddDeviceRead
@@ -55,12 +55,12 @@ unfoldable pub addDeviceOf : List ℕ → AddDeviceRead
 addDeviceOf m = field Fails m 12 4 (field Fails m 16 4 (namesFrom m (pairOf m 20)))
 
 abbrev pub textPairAllowed : Text → Text → Bool
-textPairAllowed single list = textAllowed single && textsAllowed list
+textPairAllowed single list = textAllowed single && listAllowed list
 
 unfoldable pub addDeviceAllowed : AddDevice → Bool
 addDeviceAllowed b =
     eqb (b .count) 1 &&
-    (leb 4 (b .device .0) &&
+    (assignable (b .device) &&
     (textPairAllowed (b .instance) (b .hardware) &&
     (textPairAllowed (b .container) (b .compatible) &&
     capabilitiesAllowed (b .capabilities))))

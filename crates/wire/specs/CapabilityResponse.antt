@@ -2,7 +2,8 @@
 use Prim.Native.Nat.{ℕ}
 use mathlib.Core.List.{List}
 use mathlib.Core.Bool.{Bool, _&&_}
-use lib.Dec.{eqb, ltb}
+use lib.Dec.{eqb}
+use Rattle.words.specs.Hresult.{succeeded}
 use Rattle.words.specs.Words.{wordAt}
 use Rattle.words.specs.Layout.{field, ended}
 use Rattle.wire.specs.declared.capability_response.CapabilityResponse.{CapabilityResponse}
@@ -18,4 +19,4 @@ capabilityResponseOf m =
 
 -- CapabilityValue 1; Result with its top bit clear
 abbrev pub capabilityResponseAllowed : CapabilityResponse → Bool
-capabilityResponseAllowed b = eqb (b .capability) 1 && ltb (b .result) 0x8000_0000
+capabilityResponseAllowed b = eqb (b .capability) 1 && succeeded (b .result)

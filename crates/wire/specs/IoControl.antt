@@ -14,7 +14,7 @@ ioControlWith m a =
     (field Fails m (20 + a) 4
     (field Fails m (20 + a + 4) 4
     (ended Fails m (20 + a + 8)
-    (Fits (record { code = wordAt m 12; input = record { start = 20; size = a }; output = wordAt m (20 + a); request = requestIn (wordAt m (20 + a + 4)) })))))
+    (Fits (record { code = wordAt m 12; input = record { start = 20; size = a }; size = wordAt m (20 + a); request = requestIn (wordAt m (20 + a + 4)) })))))
 
 unfoldable pub ioControlOf : List ℕ → IoControlRead
 ioControlOf m =

@@ -71,7 +71,7 @@ addVirtualChannelAsked addVirtualChannel.Fits = Step
 addVirtualChannelAsked (addVirtualChannel.Fails fault) = Fails fault
 
 abbrev pub addDeviceAsked : AddDeviceRead → Asked
-addDeviceAsked (addDevice.Fits b) = cond (addDeviceAllowed b) (Device (b .device) (b .capabilities .noack)) Value
+addDeviceAsked (addDevice.Fits b) = cond (addDeviceAllowed b) (Device (b .device) (b .capabilities .jitter)) Value
 addDeviceAsked (addDevice.Fails fault) = Fails fault
 
 abbrev pub cancelRequestAsked : CancelRequestRead → Asked
@@ -83,7 +83,7 @@ registerRequestCallbackAsked (registerRequestCallback.Fits b) = cond (registerRe
 registerRequestCallbackAsked (registerRequestCallback.Fails fault) = Fails fault
 
 abbrev pub ioControlAsked : IoControlRead → Asked
-ioControlAsked (ioControl.Fits b) = IoControl (record { request = b .request; size = b .output; noack = false; payload = b .input })
+ioControlAsked (ioControl.Fits b) = IoControl (record { request = b .request; size = b .size; noack = false; payload = b .input })
 ioControlAsked (ioControl.Fails fault) = Fails fault
 
 abbrev pub transferInRequestAsked : TransferInRequestRead → Asked

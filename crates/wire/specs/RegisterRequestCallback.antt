@@ -4,7 +4,7 @@ use mathlib.Core.List.{List}
 use mathlib.Core.Bool.{Bool, true, cond}
 use lib.Dec.{eqb, leb}
 use Rattle.words.specs.Words.{wordAt}
-use Rattle.words.specs.Ids.{interfaceIn, maskIn}
+use Rattle.words.specs.Ids.{assignable, interfaceIn, maskIn}
 use Rattle.words.specs.Layout.{field, ended}
 use Rattle.words.specs.declared.ids.Known.{Known}
 use Rattle.words.specs.declared.ids.Known.the-variants.{Nothing, Is}
@@ -17,15 +17,15 @@ registerRequestCallbackOf m =
     field Fails m 12 4
     (cond (eqb (wordAt m 12) 0)
     (ended Fails m 16
-    (Fits (record { count = wordAt m 12; callback = Nothing; mask = 0 })))
+    (Fits (record { count = wordAt m 12; callback = Nothing; top = 0 })))
     (field Fails m 16 4
     (ended Fails m 20
-    (Fits (record { count = wordAt m 12; callback = Is (interfaceIn (wordAt m 16)); mask = maskIn (wordAt m 16) })))))
+    (Fits (record { count = wordAt m 12; callback = Is (interfaceIn (wordAt m 16)); top = maskIn (wordAt m 16) })))))
 
 -- an interface that is given is none of 0 to 3
 abbrev pub givenAllowed : Known → Bool
 givenAllowed Nothing = true
-givenAllowed (Is id) = leb 4 (id .0)
+givenAllowed (Is id) = assignable id
 
 abbrev pub registerRequestCallbackAllowed : RegisterRequestCallback → Bool
 registerRequestCallbackAllowed b = givenAllowed (b .callback)

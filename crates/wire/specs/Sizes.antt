@@ -4,8 +4,13 @@ use mathlib.Core.Bool.{cond}
 use lib.Dec.{eqb}
 use Rattle.words.specs.Layout.{Within}
 use Rattle.device.specs.Sizes.{textSize}
-use Rattle.urb.specs.Sizes.{UrbWithin}
+use Rattle.urb.specs.Sizes.{UrbWithin, urbLength}
+use Rattle.wire.specs.declared.ts_urb_result.TsUrbResult.{TsUrbResult}
 use Rattle.wire.specs.Reading.{Body, capabilityRequestBody, capabilityResponseBody, channelCreatedBody, addVirtualChannelBody, addDeviceBody, cancelRequestBody, registerRequestCallbackBody, ioControlBody, transferInRequestBody, transferOutRequestBody, retractDeviceBody, ioControlCompletionBody, urbCompletionBody, urbCompletionNoDataBody}
+
+-- a TS_URB_RESULT: its header and the rest
+abbrev pub resultLength : TsUrbResult → ℕ
+resultLength r = 8 + r .rest .size
 
 -- the length of a message with a body: its header and its fields
 abbrev pub lengthOf : Body → ℕ
@@ -17,12 +22,12 @@ lengthOf (addDeviceBody b) = 20 + textSize (b .instance) + textSize (b .hardware
 lengthOf (cancelRequestBody b) = 16
 lengthOf (registerRequestCallbackBody b) = cond (eqb (b .count) 0) 16 20
 lengthOf (ioControlBody b) = 20 + b .input .size + 8
-lengthOf (transferInRequestBody b) = 16 + b .urb .size + 4
-lengthOf (transferOutRequestBody b) = 16 + b .urb .size + 4 + b .size
+lengthOf (transferInRequestBody b) = 16 + urbLength (b .urb .size) (b .urb .urb) + 4
+lengthOf (transferOutRequestBody b) = 16 + urbLength (b .urb .size) (b .urb .urb) + 4 + b .output .size
 lengthOf (retractDeviceBody b) = 16
-lengthOf (ioControlCompletionBody b) = 28 + b .size
-lengthOf (urbCompletionBody b) = 20 + b .urb .size + 8 + b .size
-lengthOf (urbCompletionNoDataBody b) = 20 + b .urb .size + 8
+lengthOf (ioControlCompletionBody b) = 28 + b .output .size
+lengthOf (urbCompletionBody b) = 20 + resultLength (b .urb) + 8 + b .output .size
+lengthOf (urbCompletionNoDataBody b) = 20 + resultLength (b .urb) + 8
 
 -- every part of a body lies within n bytes
 abbrev pub PartsWithin : ℕ → Body → Type 0

@@ -37,7 +37,7 @@ pub struct AddDevice {
     pub count: u32,
     pub device: InterfaceId,
     // the top 2 bits of UsbDevice, which are no part of the interface
-    pub mask: u32,
+    pub top: u32,
     pub instance: Text,
     pub hardware: Text,
     pub compatible: Text,
@@ -130,7 +130,7 @@ fn device(m: &[u8], names: TextPair, classes: TextPair, at: usize) -> AddDeviceR
             AddDeviceRead::Fits(AddDevice {
                 count: u32_at(m, 12),
                 device: InterfaceId::read(m, 16),
-                mask: InterfaceId::mask(m, 16),
+                top: InterfaceId::mask(m, 16),
                 instance: instance,
                 hardware: hardware,
                 compatible: compatible,
@@ -147,24 +147,25 @@ pub(crate) fn allowed(b: AddDevice) -> bool
     if b.count != 1 {
         return false;
     }
-    if b.device.number() < 4 {
+    let device = b.device;
+    if !device.assignable() {
         return false;
     }
     let instance = b.instance;
     let hardware = b.hardware;
-    if !texts_allowed(instance, hardware) {
+    if !pair_allowed(instance, hardware) {
         return false;
     }
     let compatible = b.compatible;
     let container = b.container;
-    if !texts_allowed(container, compatible) {
+    if !pair_allowed(container, compatible) {
         return false;
     }
     let capabilities = b.capabilities;
     device_capabilities::allowed(capabilities)
 }
 
-fn texts_allowed(single: Text, list: Text) -> bool
+fn pair_allowed(single: Text, list: Text) -> bool
     ensures { λ r. ⌜ r ≡ textPairAllowed single list ⌝ }
 {
     if !text::allowed(single) {
@@ -183,7 +184,7 @@ pub(crate) fn ask(m: &[u8]) -> Asked
             }
             let device = b.device;
             let capabilities = b.capabilities;
-            Asked::Device(device, capabilities.noack)
+            Asked::Device(device, capabilities.jitter)
         }
         AddDeviceRead::Fails(fault) => Asked::Fails(fault),
     }

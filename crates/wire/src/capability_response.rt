@@ -6,6 +6,7 @@ use crate::kind::Side;
 use crate::kind::goes_to;
 use crate::message::Asked;
 use words::header::Header;
+use words::hresult::is_success;
 use words::layout::Fault;
 use words::numbers::rest;
 use words::numbers::u32_at;
@@ -67,7 +68,7 @@ pub(crate) fn allowed(b: CapabilityResponse) -> bool
     if b.capability != 1 {
         return false;
     }
-    b.result < 0x8000_0000
+    is_success(b.result)
 }
 
 pub(crate) fn ask(m: &[u8]) -> Asked

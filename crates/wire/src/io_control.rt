@@ -25,7 +25,7 @@ ghost use Rattle.wire.specs.IoControl.{ioControlOf};
 pub struct IoControl {
     pub code: u32,
     pub input: Part,
-    pub output: u32,
+    pub size: u32,
     pub request: RequestId,
 }
 
@@ -82,7 +82,7 @@ pub(crate) fn read(m: &[u8]) -> IoControlRead
             start: 20,
             size: size,
         },
-        output: u32_at(m, e),
+        size: u32_at(m, e),
         request: RequestId::read(m, e + 4),
     })
 }
@@ -96,7 +96,7 @@ pub(crate) fn ask(m: &[u8]) -> Asked
             let input = b.input;
             Asked::IoControl(Request {
                 request: request,
-                size: b.output,
+                size: b.size,
                 noack: false,
                 payload: input,
             })

@@ -116,7 +116,7 @@ pub fn kind_of(h: Header, side: u8, device: Known, callback: Known) -> KindFound
     device_kind(h, side, device, callback)
 }
 
-// The rows from 13 on: what the server asks of the device.
+// The rows from 13 on: first what the server asks of the device.
 fn device_kind(h: Header, side: u8, device: Known, callback: Known) -> KindFound
     ensures { λ r. ⌜ r ≡ firstFitting deviceKinds h side device callback ⌝ }
 {

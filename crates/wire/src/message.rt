@@ -23,7 +23,7 @@ use words::layout::Part;
 ghost use mathlib.Core.Path.{_≡_};
 ghost use Rattle.wire.specs.Message.{askedOf};
 
-// A request that wants a row: its id, its OutputBufferSize, NoAck, and where its input or output bytes lie.
+// A request: its id, its OutputBufferSize, whether it comes with NoAck, and where its input or output bytes lie.
 pub struct Request {
     pub request: RequestId,
     pub size: u32,

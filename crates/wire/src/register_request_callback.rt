@@ -20,8 +20,8 @@ ghost use Rattle.wire.specs.RegisterRequestCallback.{registerRequestCall
 pub struct RegisterRequestCallback {
     pub count: u32,
     pub callback: Known,
-    // the top 2 bits of RequestCompletion, which are no part of the interface
-    pub mask: u32,
+    // the top 2 bits of RequestCompletion, which are no part of the interface; 0 where it is not there
+    pub top: u32,
 }
 
 pub enum RegisterRequestCallbackRead {
@@ -62,7 +62,7 @@ pub(crate) fn read(m: &[u8]) -> RegisterRequestCallbackRead
         return RegisterRequestCallbackRead::Fits(RegisterRequestCallback {
             count: count,
             callback: Known::Nothing,
-            mask: 0,
+            top: 0,
         });
     }
     if rest(m, 16) < 4 {
@@ -74,7 +74,7 @@ pub(crate) fn read(m: &[u8]) -> RegisterRequestCallbackRead
     RegisterRequestCallbackRead::Fits(RegisterRequestCallback {
         count: count,
         callback: Known::Is(InterfaceId::read(m, 16)),
-        mask: InterfaceId::mask(m, 16),
+        top: InterfaceId::mask(m, 16),
     })
 }
 
@@ -84,7 +84,7 @@ pub(crate) fn allowed(b: RegisterRequestCallback) -> bool
     let callback = b.callback;
     match callback {
         Known::Nothing => true,
-        Known::Is(id) => 4 <= id.number(),
+        Known::Is(id) => id.assignable(),
     }
 }
 

@@ -101,7 +101,7 @@ pub(crate) fn allowed(b: TransferOutRequest) -> bool
         return false;
     }
     if t.noack {
-        return ts_urb::may_skip_ack(urb);
+        return ts_urb::may_no_ack(urb);
     }
     true
 }

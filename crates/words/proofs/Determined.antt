@@ -32,6 +32,10 @@ use Rattle.words.proofs.ids.RequestId.no_ack.Reads as request-no-ack
 use Rattle.words.proofs.ids.RequestId.no_ack.Kinds as request-no-ack-kinds
 use Rattle.words.proofs.ids.RequestId.number.Reads as request-number
 use Rattle.words.proofs.ids.RequestId.number.Kinds as request-number-kinds
+use Rattle.words.proofs.ids.InterfaceId.assignable.Reads as assignable
+use Rattle.words.proofs.ids.InterfaceId.assignable.Kinds as assignable-kinds
+use Rattle.words.proofs.hresult.is_success.Reads as is-success
+use Rattle.words.proofs.hresult.is_success.Kinds as is-success-kinds
 use Rattle.words.proofs.header.read.Reads as header-read
 use Rattle.words.proofs.header.read.Kinds as header-read-kinds
 
@@ -85,3 +89,9 @@ request-number-determined = record { asks-nothing = λ κs a. tt; one-result = �
 
 pub header-read-determined : Determined 1 header-read-kinds.ps header-read-kinds.r header-read.Pre header-read.Post
 header-read-determined = record { asks-nothing = λ κs a. tt; one-result = λ κs a x y s t p q. same x y _ p q }
+
+pub assignable-determined : Determined 0 assignable-kinds.ps assignable-kinds.r assignable.Pre assignable.Post
+assignable-determined = record { asks-nothing = λ κs a. tt; one-result = λ κs a x y s t p q. same x y _ p q }
+
+pub is-success-determined : Determined 0 is-success-kinds.ps is-success-kinds.r is-success.Pre is-success.Post
+is-success-determined = record { asks-nothing = λ κs a. tt; one-result = λ κs a x y s t p q. same x y _ p q }

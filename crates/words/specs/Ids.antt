@@ -13,6 +13,10 @@ interfaceIn word = record { 0 = word % 0x4000_0000 }
 abbrev pub maskIn : ℕ → ℕ
 maskIn word = word / 0x4000_0000
 
+-- 01 "Bodies": device and callback ids 0 to 3 give 8
+abbrev pub assignable : InterfaceId → Bool
+assignable id = leb 4 (id .0)
+
 abbrev pub messageIn : ℕ → MessageId
 messageIn word = record { 0 = word }
 

@@ -1,4 +1,4 @@
--- How sizes are held against a message: in message order, and the first that fails is told (01 "Bodies", answer 7).
+-- How sizes are held against a message (answer 7): in message order, and the first that fails is told (docs/DECISIONS.md, 6).
 -- `fails` makes the answer of the reader at hand out of the fault.
 use Prim.Native.Nat.{ℕ, _+_, _-_, _≤_}
 use mathlib.Core.List.{List}
@@ -33,6 +33,6 @@ ended fails m at next = cond (ltb 0 (left m at)) (fails (LeftOver at)) next
 abbrev pub filled : {A : Type 0} → (Fault → A) → ℕ → ℕ → A → A
 filled fails at end next = cond (ltb at end) (fails (LeftOver at)) next
 
--- a part lies within n bytes
+-- a part lies behind the header and within n bytes
 abbrev pub Within : ℕ → Part → Type 0
-Within n p = p .start + p .size ≤ n
+Within n p = (12 ≤ p .start) × (p .start + p .size ≤ n)

@@ -1,4 +1,4 @@
--- Little-endian numbers at a place of a message. A byte past the end counts as 0; the readers test for the end before they read.
+-- Little-endian numbers at a place of a message. A byte past the end counts as 0.
 use Prim.Native.Nat.{ℕ, _+_, _*_}
 use mathlib.Core.List.{List}
 use lib.ListN.{getD}

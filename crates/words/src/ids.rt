@@ -1,10 +1,10 @@
 // Three numbers of the protocol that may never stand in for one another (01 "The gate's duties").
 //
-// Their fields are private, and each is made only out of the bytes of a message, at a place: there is no way from one to another, nor from a number.
+// Their fields are private, and each is made only by a reader, out of four bytes of a message at a place (docs/DECISIONS.md, 14).
 use crate::numbers::u32_at;
 ghost use mathlib.Core.Path.{_≡_};
 ghost use Rattle.words.specs.Words.{wordAt};
-ghost use Rattle.words.specs.Ids.{interfaceIn, maskIn, messageIn, requestIn, urbRequestIn, noAckIn};
+ghost use Rattle.words.specs.Ids.{assignable, interfaceIn, maskIn, messageIn, requestIn, urbRequestIn, noAckIn};
 
 pub struct InterfaceId(u32);
 
@@ -31,6 +31,15 @@ impl InterfaceId {
         ensures { λ r. ⌜ r ≡ maskIn (wordAt (now (m .entry)) at) ⌝ }
     {
         u32_at(m, at) / 0x4000_0000
+    }
+
+    // The first interface that a message may give to a device or a callback: those below are the defaults.
+    pub const FIRST_ASSIGNABLE: u32 = 4;
+
+    pub fn assignable(self) -> bool
+        ensures { λ r. ⌜ r ≡ assignable self ⌝ }
+    {
+        InterfaceId::FIRST_ASSIGNABLE <= self.0
     }
 
     pub fn number(self) -> u32

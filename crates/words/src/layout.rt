@@ -6,12 +6,12 @@ pub struct Part {
     pub size: usize,
 }
 
-// Why sizes do not add up, and the byte of the message at which the failing field starts.
+// Why sizes do not add up, and at which byte of the message.
 pub enum Fault {
-    // a field, or a counted run, needs more bytes than are left
+    // a field, or a counted run, needs more bytes than are left: the byte at which it starts
     RanOut(usize),
-    // a size inside the message is not the one that its content has
+    // a size inside the message is not the one that its content has: where what it measures starts, or a Cb that is too small
     Disagrees(usize),
-    // bytes behind the last field
+    // bytes behind the last field: the first of them
     LeftOver(usize),
 }

@@ -1,4 +1,5 @@
-// Little-endian numbers at a place of a message. A byte past the end counts as 0: a size reader tests for the end first.
+// Little-endian numbers at a place of a message. A byte past the end counts as 0, so that a number can be read anywhere; whether it is there is the size
+// reader's question.
 ghost use mathlib.Core.Path.{_≡_};
 ghost use Prim.Native.Nat.{_-_, _<_};
 ghost use lib.ListN.{length};

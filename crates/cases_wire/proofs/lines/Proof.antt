@@ -1,3 +1,4 @@
+-- `lines` is safe and ends: the number of records that may still come falls, and the space that is lent keeps its length.
 use borrow.Author.Needs.{needs}
 use mathlib.Core.Path.{_≡_}
 use Prim.Native.Nat.{_-_}

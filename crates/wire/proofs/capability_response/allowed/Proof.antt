@@ -1,4 +1,4 @@
--- `wire::capability_response::allowed` meets its contract.
+-- `wire::capability_response::allowed` meets its contract: its tests are those of the rule.
 use borrow.Author.Needs.{needs}
 use Rattle.words.proofs.Tests.{tests}
 use Rattle.wire.proofs.capability_response.allowed.Statement.{statement}
@@ -9,4 +9,5 @@ allowed-spec =
     tie.close
     (tie.spec
     (λ c. search tests)
-    (λ c. search tests))
+    (search needs)
+    (λ c. search (tests, ← (c .is-success .ensures))))

@@ -12,4 +12,4 @@ allowed-spec =
     (search needs)
     (search needs)
     (λ c. search (tests, c .enum-told .given .1))
-    (λ c. search (tests, c .before .before .callback .given .1, ← (c .number .ensures))))
+    (λ c. search (tests, c .before .before .callback .given .1, ← (c .assignable .ensures))))

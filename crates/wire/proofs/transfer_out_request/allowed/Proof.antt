@@ -16,5 +16,5 @@ allowed-spec =
     (search needs)
     (λ c. search (tests, ← (c .before .before .before .allowed .ensures), not-false (c .before .before .before .allowed .result) (c .before .before .if1 .left), ← (c .before .only-in .ensures), c .if2 .taken))
     (search needs)
-    (λ c. search (tests, ← (c .before .before .before .before .before .allowed .ensures), not-false (c .before .before .before .before .before .allowed .result) (c .before .before .before .before .if1 .left), ← (c .before .before .before .only-in .ensures), c .before .before .if2 .left, c .before .if3 .taken, ← (c .may-skip-ack .ensures)))
+    (λ c. search (tests, ← (c .before .before .before .before .before .allowed .ensures), not-false (c .before .before .before .before .before .allowed .result) (c .before .before .before .before .if1 .left), ← (c .before .before .before .only-in .ensures), c .before .before .if2 .left, c .before .if3 .taken, ← (c .may-no-ack .ensures)))
     (λ c. search (tests, ← (c .before .before .before .before .allowed .ensures), not-false (c .before .before .before .before .allowed .result) (c .before .before .before .if1 .left), ← (c .before .before .only-in .ensures), c .before .if2 .left, c .if3 .left)))

@@ -1,12 +1,12 @@
--- `wire::add_device::texts_allowed` meets its contract.
+-- `wire::add_device::pair_allowed` meets its contract.
 use borrow.Author.Needs.{needs}
 use borrow.Author.Tests.{not-false, not-true}
 use Rattle.words.proofs.Tests.{tests}
-use Rattle.wire.proofs.add_device.texts_allowed.Statement.{statement}
-use Rattle.wire.proofs.add_device.texts_allowed.Tie as tie
+use Rattle.wire.proofs.add_device.pair_allowed.Statement.{statement}
+use Rattle.wire.proofs.add_device.pair_allowed.Tie as tie
 
-pub texts-allowed-spec : {M : Type 1} → statement M
-texts-allowed-spec =
+pub pair-allowed-spec : {M : Type 1} → statement M
+pair-allowed-spec =
     tie.close
     (tie.spec
     (search needs)
