@@ -1,0 +1,103 @@
+// What a channel keeps.
+use crate::row;
+use crate::row::Row;
+use crate::row::Sort;
+use words::ids::Known;
+use words::ids::RequestId;
+ghost use mathlib.Core.Path.{_≡_};
+ghost use Rattle.channel.specs.Rows.{findOf, lowestOf, openCount, withRow, emptied, newChannel};
+
+pub struct Channel {
+    pub phase: u8,
+    pub device: Known,
+    pub callback: Known,
+    // the device's NoAck milliseconds
+    pub jitter: u32,
+    pub rows: [Row; 16],
+}
+
+pub enum Found {
+    At(usize),
+    Nothing,
+}
+
+// Phase 0, nothing known, no rows.
+pub fn new() -> Channel
+    ensures { λ r. ⌜ r ≡ newChannel ⌝ }
+{
+    let row = Row { sort: Sort::Free };
+    let rows = [row; 16];
+    Channel {
+        phase: 0,
+        device: Known::Nothing,
+        callback: Known::Nothing,
+        jitter: 0,
+        rows: rows,
+    }
+}
+
+// The lowest row that is the open request of an id.
+pub fn find(c: Channel, id: RequestId) -> Found
+    ensures { λ r. ⌜ r ≡ findOf c id ⌝ }
+{
+    let mut i: usize = 0;
+    while i < 16 {
+        let row = c.rows[i];
+        if row::has(row, id) {
+            return Found::At(i);
+        }
+        i += 1;
+    }
+    Found::Nothing
+}
+
+pub fn lowest_free(c: Channel) -> Found
+    ensures { λ r. ⌜ r ≡ lowestOf c ⌝ }
+{
+    let mut k: usize = 0;
+    while k < 16 {
+        let row = c.rows[k];
+        if row::is_free(row) {
+            return Found::At(k);
+        }
+        k += 1;
+    }
+    Found::Nothing
+}
+
+pub fn count_open(c: Channel) -> u32
+    ensures { λ r. ⌜ r ≡ openCount (c .rows) ⌝ }
+{
+    let mut n: u32 = 0;
+    let mut j: usize = 0;
+    while j < 16 {
+        let row = c.rows[j];
+        n += row::one(row);
+        j += 1;
+    }
+    n
+}
+
+// The channel with another row at a place; a place past the last row changes nothing.
+pub fn put(c: Channel, at: usize, row: Row) -> Channel
+    ensures { λ r. ⌜ r ≡ withRow c at row ⌝ }
+{
+    if at < 16 {
+        let mut d = c;
+        d.rows[at] = row;
+        d
+    } else {
+        c
+    }
+}
+
+// The channel with every row free.
+pub fn empty(c: Channel) -> Channel
+    ensures { λ r. ⌜ r ≡ emptied c ⌝ }
+{
+    let row = Row { sort: Sort::Free };
+    let rows = [row; 16];
+    let mut d = c;
+    d.rows = rows;
+    d
+}
