@@ -1,6 +1,5 @@
 // What the readers say of one message, as the rest of a line.
 use wire::kind;
-use wire::kind::Kind;
 use wire::kind::KindFound;
 use wire::message;
 use wire::message::Asked;
@@ -11,6 +10,7 @@ use words::header::Header;
 use words::header::HeaderRead;
 use words::ids::Known;
 use words::ids::RequestId;
+use words::kind::Kind;
 use words::layout::Fault;
 use words::layout::Part;
 
@@ -34,7 +34,7 @@ fn of_header(m: &[u8], h: Header, side: u8, device: Known, callback: Known) {
 
 fn of_kind(m: &[u8], found: Kind) {
     io::write_all(1, b" kind");
-    number(kind::number(found) as u64);
+    number(words::kind::number(found) as u64);
     of_asked(message::ask(found, m));
 }
 

@@ -52,8 +52,8 @@ use Rattle.wire.specs.declared.urb_completion_no_data.UrbCompletionNoDat
 use Rattle.wire.specs.declared.urb_completion_no_data.UrbCompletionNoDataRead.the-variants as urbCompletionNoData
 use Rattle.wire.specs.declared.message.Asked.{Asked}
 use Rattle.wire.specs.declared.message.Asked.the-variants.{Value}
-use Rattle.wire.specs.declared.kind.Kind.{Kind}
-use Rattle.wire.specs.declared.kind.Kind.the-variants as kind
+use Rattle.words.specs.declared.kind.Kind.{Kind}
+use Rattle.words.specs.declared.kind.Kind.the-variants as kind
 use Rattle.wire.proofs.Laws.{Good, capability-request-good, capability-response-good, channel-created-good, add-virtual-channel-good, add-device-good, cancel-request-good, register-request-callback-good, io-control-good, transfer-in-request-good, transfer-out-request-good, retract-device-good, io-control-completion-good, urb-completion-good, urb-completion-no-data-good}
 use Rattle.wire.proofs.Blind.{Blind, none, capability-request-blind, capability-response-blind, channel-created-blind, add-virtual-channel-blind, add-device-blind, cancel-request-blind, register-request-callback-blind, io-control-blind, transfer-in-request-blind, transfer-out-request-blind, retract-device-blind, io-control-completion-blind, urb-completion-blind, urb-completion-no-data-blind}
 

@@ -6,29 +6,10 @@ use lib.Dec.{eqb}
 use Rattle.words.specs.declared.header.Header.{Header}
 use Rattle.words.specs.declared.ids.Known.{Known}
 use Rattle.words.specs.declared.ids.Known.the-variants as known
-use Rattle.wire.specs.declared.kind.Kind.{Kind}
-use Rattle.wire.specs.declared.kind.Kind.the-variants.{CapabilityRequest, CapabilityResponse, ChannelCreatedByServer, ChannelCreatedByClient, AddVirtualChannel, AddDevice, CancelRequest, RegisterRequestCallback, IoControl, InternalIoControl, TransferInRequest, TransferOutRequest, RetractDevice, IoControlCompletion, UrbCompletion, UrbCompletionNoData}
+use Rattle.words.specs.declared.kind.Kind.{Kind}
+use Rattle.words.specs.declared.kind.Kind.the-variants.{CapabilityRequest, CapabilityResponse, ChannelCreatedByServer, ChannelCreatedByClient, AddVirtualChannel, AddDevice, CancelRequest, RegisterRequestCallback, IoControl, InternalIoControl, TransferInRequest, TransferOutRequest, RetractDevice, IoControlCompletion, UrbCompletion, UrbCompletionNoData}
 use Rattle.wire.specs.declared.kind.KindFound.{KindFound}
 use Rattle.wire.specs.declared.kind.KindFound.the-variants.{Nothing, Is}
-
--- 01's number of each kind
-abbrev pub kindNumber : Kind → ℕ
-kindNumber CapabilityRequest = 1
-kindNumber CapabilityResponse = 2
-kindNumber ChannelCreatedByServer = 3
-kindNumber ChannelCreatedByClient = 4
-kindNumber AddVirtualChannel = 5
-kindNumber AddDevice = 6
-kindNumber CancelRequest = 13
-kindNumber RegisterRequestCallback = 7
-kindNumber IoControl = 8
-kindNumber InternalIoControl = 9
-kindNumber TransferInRequest = 10
-kindNumber TransferOutRequest = 11
-kindNumber RetractDevice = 14
-kindNumber IoControlCompletion = 15
-kindNumber UrbCompletion = 16
-kindNumber UrbCompletionNoData = 17
 
 -- a message of a side goes to an interface, by the side and with the mask of a kind
 abbrev pub goesTo : Header → ℕ → ℕ → ℕ → ℕ → Bool

@@ -47,8 +47,8 @@ use Rattle.wire.specs.declared.urb_completion_no_data.UrbCompletionNoDat
 use Rattle.wire.specs.declared.urb_completion_no_data.UrbCompletionNoDataRead.the-variants as urbCompletionNoData
 use Rattle.wire.specs.declared.message.Asked.{Asked}
 use Rattle.wire.specs.declared.message.Asked.the-variants.{Fails, Value, Step, Device, Callback, IoControl, TransferIn, TransferOut, Cancel, Retract, IoCompletion, UrbCompletion, UrbCompletionNoData}
-use Rattle.wire.specs.declared.kind.Kind.{Kind}
-use Rattle.wire.specs.declared.kind.Kind.the-variants as kind
+use Rattle.words.specs.declared.kind.Kind.{Kind}
+use Rattle.words.specs.declared.kind.Kind.the-variants as kind
 
 -- the empty part, at the message's start
 abbrev pub emptyPart : Part

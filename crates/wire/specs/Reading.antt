@@ -58,8 +58,8 @@ use Rattle.wire.specs.declared.urb_completion_no_data.UrbCompletionNoDat
 use Rattle.wire.specs.declared.urb_completion_no_data.UrbCompletionNoDataRead.the-variants as urbCompletionNoData
 use Rattle.words.specs.declared.layout.Fault.{Fault}
 use Rattle.words.specs.declared.layout.Part.{Part}
-use Rattle.wire.specs.declared.kind.Kind.{Kind}
-use Rattle.wire.specs.declared.kind.Kind.the-variants as kind
+use Rattle.words.specs.declared.kind.Kind.{Kind}
+use Rattle.words.specs.declared.kind.Kind.the-variants as kind
 use Rattle.wire.specs.Message.{emptyPart}
 
 pub data Body : Type 0 where

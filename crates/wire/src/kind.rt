@@ -16,27 +16,9 @@ use crate::urb_completion;
 use crate::urb_completion_no_data;
 use words::header::Header;
 use words::ids::Known;
+use words::kind::Kind;
 ghost use mathlib.Core.Path.{_≡_};
-ghost use Rattle.wire.specs.Kinds.{goesTo, callsAt, callsKnown, firstFitting, kinds, deviceKinds, completionKinds, kindNumber};
-
-pub enum Kind {
-    CapabilityRequest,
-    CapabilityResponse,
-    ChannelCreatedByServer,
-    ChannelCreatedByClient,
-    AddVirtualChannel,
-    AddDevice,
-    CancelRequest,
-    RegisterRequestCallback,
-    IoControl,
-    InternalIoControl,
-    TransferInRequest,
-    TransferOutRequest,
-    RetractDevice,
-    IoControlCompletion,
-    UrbCompletion,
-    UrbCompletionNoData,
-}
+ghost use Rattle.wire.specs.Kinds.{goesTo, callsAt, callsKnown, firstFitting, kinds, deviceKinds, completionKinds};
 
 pub enum KindFound {
     Nothing,
@@ -158,28 +140,4 @@ fn completion_kind(h: Header, side: u8, callback: Known) -> KindFound
         return KindFound::Is(Kind::UrbCompletionNoData);
     }
     KindFound::Nothing
-}
-
-// 01's number of a kind.
-pub fn number(kind: Kind) -> u8
-    ensures { λ r. ⌜ r ≡ kindNumber kind ⌝ }
-{
-    match kind {
-        Kind::CapabilityRequest => 1,
-        Kind::CapabilityResponse => 2,
-        Kind::ChannelCreatedByServer => 3,
-        Kind::ChannelCreatedByClient => 4,
-        Kind::AddVirtualChannel => 5,
-        Kind::AddDevice => 6,
-        Kind::RegisterRequestCallback => 7,
-        Kind::IoControl => 8,
-        Kind::InternalIoControl => 9,
-        Kind::TransferInRequest => 10,
-        Kind::TransferOutRequest => 11,
-        Kind::CancelRequest => 13,
-        Kind::RetractDevice => 14,
-        Kind::IoControlCompletion => 15,
-        Kind::UrbCompletion => 16,
-        Kind::UrbCompletionNoData => 17,
-    }
 }
