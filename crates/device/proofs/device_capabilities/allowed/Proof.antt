@@ -1,4 +1,4 @@
--- `device::device_capabilities::allowed` meets its contract.
+-- `device::device_capabilities::allowed` meets its contract: at each `return` the tests and calls before it say which case of the definition holds.
 use borrow.Author.Needs.{needs}
 use borrow.Author.Tests.{not-false, not-true}
 use Rattle.device.specs.DeviceCapabilities.{capabilitiesAllowed}

@@ -1,4 +1,4 @@
--- `device::device_capabilities::read` meets its contract.
+-- `device::device_capabilities::read` meets its contract: at each `return` the tests and calls before it say which case of the definition holds.
 use borrow.Author.Needs.{needs}
 use Rattle.device.specs.DeviceCapabilities.{capabilitiesOf}
 use Rattle.words.proofs.Tests.{tests}

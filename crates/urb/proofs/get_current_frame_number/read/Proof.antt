@@ -1,4 +1,4 @@
--- `urb::get_current_frame_number::read` meets its contract.
+-- `urb::get_current_frame_number::read` meets its contract: at each `return` the tests and calls before it say which case of the definition holds.
 use borrow.Author.Needs.{needs}
 use Rattle.words.proofs.Tests.{tests}
 use Rattle.urb.proofs.get_current_frame_number.read.Statement.{statement}

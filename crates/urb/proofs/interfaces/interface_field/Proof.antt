@@ -1,4 +1,4 @@
--- `urb::interfaces::interface_field` meets its contract.
+-- `urb::interfaces::interface_field` meets its contract: at each `return` the tests and calls before it say which case of the definition holds.
 use borrow.Author.Needs.{needs}
 use Rattle.words.proofs.Tests.{tests}
 use Rattle.urb.proofs.interfaces.interface_field.Statement.{statement}

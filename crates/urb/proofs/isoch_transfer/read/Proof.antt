@@ -1,4 +1,4 @@
--- `urb::isoch_transfer::read` meets its contract.
+-- `urb::isoch_transfer::read` meets its contract: at each `return` the tests and calls before it say which case of the definition holds.
 use borrow.Author.Needs.{needs}
 use Rattle.urb.specs.IsochTransfer.{isochTransferOf}
 use Rattle.words.proofs.Tests.{tests}

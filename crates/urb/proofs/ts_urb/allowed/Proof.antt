@@ -1,4 +1,4 @@
--- `urb::ts_urb::allowed` meets its contract.
+-- `urb::ts_urb::allowed` meets its contract: at each `return` the tests and calls before it say which case of the definition holds.
 use borrow.Author.Needs.{needs}
 use Rattle.words.proofs.Tests.{tests}
 use Rattle.urb.proofs.ts_urb.allowed.Statement.{statement}

@@ -1,4 +1,4 @@
--- `wire::add_device::device` meets its contract.
+-- `wire::add_device::device` meets its contract: at each `return` the tests and calls before it say which case of the definition holds.
 use borrow.Author.Needs.{needs}
 use borrow.Author.Tests.{le-ltb, lt-ltb}
 use Rattle.wire.specs.AddDevice.{deviceOf}

@@ -1,4 +1,4 @@
--- `wire::channel_created::read` meets its contract.
+-- `wire::channel_created::read` meets its contract: at each `return` the tests and calls before it say which case of the definition holds.
 use borrow.Author.Needs.{needs}
 use Rattle.wire.specs.ChannelCreated.{channelCreatedOf}
 use Rattle.words.proofs.Tests.{tests}

@@ -1,4 +1,4 @@
--- `wire::kind::calls_known` meets its contract.
+-- `wire::kind::calls_known` meets its contract: at each `return` the tests and calls before it say which case of the definition holds.
 use borrow.Author.Needs.{needs}
 use Rattle.words.proofs.Tests.{tests}
 use Rattle.wire.proofs.kind.calls_known.Statement.{statement}

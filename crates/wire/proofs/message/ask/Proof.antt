@@ -1,4 +1,4 @@
--- `wire::message::ask` meets its contract.
+-- `wire::message::ask` meets its contract: at each `return` the tests and calls before it say which case of the definition holds.
 use borrow.Author.Needs.{needs}
 use Rattle.wire.specs.Message.{askedOf}
 use Rattle.words.proofs.Tests.{tests}

@@ -1,4 +1,4 @@
--- `wire::register_request_callback::read` meets its contract.
+-- `wire::register_request_callback::read` meets its contract: at each `return` the tests and calls before it say which case of the definition holds.
 use borrow.Author.Needs.{needs}
 use Rattle.wire.specs.RegisterRequestCallback.{registerRequestCallbackOf}
 use Rattle.words.proofs.Tests.{tests}

@@ -1,4 +1,4 @@
--- `wire::transfer::read` meets its contract.
+-- `wire::transfer::read` meets its contract: at each `return` the tests and calls before it say which case of the definition holds.
 use Prim.Native.Nat.{_+_}
 use mathlib.Core.Path.{_≡_, sym}
 use lib.ListN.{length, take}

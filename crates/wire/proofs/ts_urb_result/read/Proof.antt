@@ -1,4 +1,4 @@
--- `wire::ts_urb_result::read` meets its contract.
+-- `wire::ts_urb_result::read` meets its contract: at each `return` the tests and calls before it say which case of the definition holds.
 use borrow.Author.Needs.{needs}
 use Rattle.wire.specs.TsUrbResult.{completionOf, completionWith}
 use Rattle.words.proofs.Tests.{tests}

@@ -1,4 +1,4 @@
--- `wire::urb_completion::read` meets its contract.
+-- `wire::urb_completion::read` meets its contract: at each `return` the tests and calls before it say which case of the definition holds.
 use borrow.Author.Needs.{needs}
 use Rattle.wire.specs.UrbCompletion.{urbCompletionOf}
 use Rattle.words.proofs.Tests.{tests}
