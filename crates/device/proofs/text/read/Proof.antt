@@ -2,6 +2,7 @@
 use borrow.Author.Needs.{needs}
 use Rattle.device.specs.Text.{textOf, unitsOf}
 use borrow.Author.Tests.{le-ltb, lt-ltb}
+use Rattle.words.proofs.Tests.{tests}
 use Rattle.device.proofs.text.read.Statement.{statement}
 use Rattle.device.proofs.text.read.Tie as tie
 
@@ -17,7 +18,7 @@ read-spec =
     (search needs)
     (search needs)
     (search needs)
-    (λ c. rw (← (c .before .before .before .before .rest .ensures), le-ltb _ _ (c .before .before .before .if1 .left), ← (c .before .before .u32-at .ensures), ← (c .before .rest2 .ensures), lt-ltb _ _ (c .if2 .taken)))
+    (λ c. search (tests, ← (c .before .before .before .before .rest .ensures), ← (c .before .before .u32-at .ensures), ← (c .before .rest2 .ensures)))
     (search needs)
     (search needs)
     (search needs)

@@ -1,7 +1,8 @@
 -- `words::header::read` meets its contract: its four fields are those of the first 12 bytes.
-use borrow.Author.Tests.{le-ltb, lt-ltb}
+use borrow.Author.Tests.{le-ltb}
 use Rattle.words.specs.Header.{headerOf}
 use borrow.Author.Needs.{needs}
+use Rattle.words.proofs.Tests.{tests}
 use Rattle.words.proofs.header.read.Statement.{statement}
 use Rattle.words.proofs.header.read.Tie as tie
 
@@ -10,9 +11,9 @@ unfolding headerOf
 read-spec =
     tie.close
     (tie.spec
-    (λ c. rw (lt-ltb _ _ (c .if1 .taken)))
+    (λ c. search tests)
     (search needs)
     (search needs)
     (search needs)
     (search needs)
-    (λ c. rw (le-ltb _ _ (c .before .before .before .before .if1 .left), ← (c .before .before .before .read .ensures), ← (c .before .before .mask .ensures), ← (c .before .read2 .ensures), ← (c .u32-at .ensures))))
+    (λ c. rw (le-ltb _ _ (c .before .before .before .before .if1 .left), c .before .before .before .read .ensures, c .before .before .mask .ensures, c .before .read2 .ensures, c .u32-at .ensures)))
