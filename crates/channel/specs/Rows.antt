@@ -2,7 +2,7 @@
 use Prim.Native.Nat.{ℕ, _+_}
 use mathlib.Core.List.{List, [], _∷_}
 use mathlib.Core.Bool.{Bool, true, false, cond, not}
-use lib.ListN.{set, replicate}
+use lib.ListN.{getD, set, replicate}
 use lib.Dec.{eqb}
 use Rattle.words.specs.declared.ids.RequestId.{RequestId}
 use Rattle.words.specs.declared.ids.Known.the-variants as known
@@ -13,6 +13,8 @@ use Rattle.channel.specs.declared.row.Row.{Row}
 use Rattle.channel.specs.declared.channel.Channel.{Channel}
 use Rattle.channel.specs.declared.channel.Found.{Found}
 use Rattle.channel.specs.declared.channel.Found.the-variants.{At, Nothing}
+use Rattle.channel.specs.declared.channel.Held.{Held}
+use Rattle.channel.specs.declared.channel.Held.the-variants as held
 
 -- a free row; it is also what stands past the last one
 abbrev pub freeRow : Row
@@ -59,6 +61,20 @@ openCount (r ∷ rs) = weight r + openCount rs
 -- where an id stands twice, the lowest row counts
 abbrev pub findOf : Channel → RequestId → Found
 findOf c id = firstFrom (holds id) (c .rows) 0
+
+-- what is open under an id: the request of that row, or nothing
+abbrev pub heldBy : ℕ → Sort → Held
+heldBy at Free = held.Nothing
+heldBy at (Io o) = held.Io at o
+heldBy at (In o) = held.In at o
+heldBy at (Out o) = held.Out at o
+
+abbrev pub heldAt : List Row → Found → Held
+heldAt rows Nothing = held.Nothing
+heldAt rows (At at) = heldBy at (getD rows at freeRow .sort)
+
+unfoldable pub heldOf : Channel → RequestId → Held
+heldOf c id = heldAt (c .rows) (findOf c id)
 
 abbrev pub lowestOf : Channel → Found
 lowestOf c = firstFrom free (c .rows) 0

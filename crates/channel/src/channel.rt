@@ -1,11 +1,12 @@
 // What a channel keeps.
 use crate::row;
+use crate::row::Open;
 use crate::row::Row;
 use crate::row::Sort;
 use words::ids::Known;
 use words::ids::RequestId;
 ghost use mathlib.Core.Path.{_≡_};
-ghost use Rattle.channel.specs.Rows.{findOf, lowestOf, openCount, withRow, emptied, newChannel};
+ghost use Rattle.channel.specs.Rows.{findOf, heldBy, heldOf, lowestOf, openCount, withRow, emptied, newChannel};
 
 pub struct Channel {
     pub phase: u8,
@@ -19,6 +20,14 @@ pub struct Channel {
 pub enum Found {
     At(usize),
     Nothing,
+}
+
+// What is open under an id: nothing, or a request of one of the three sorts, and its row.
+pub enum Held {
+    Nothing,
+    Io(usize, Open),
+    In(usize, Open),
+    Out(usize, Open),
 }
 
 // Phase 0, nothing known, no rows.
@@ -37,7 +46,7 @@ pub fn new() -> Channel
 }
 
 // The lowest row that is the open request of an id.
-pub fn find(c: Channel, id: RequestId) -> Found
+pub(crate) fn find(c: Channel, id: RequestId) -> Found
     ensures { λ r. ⌜ r ≡ findOf c id ⌝ }
 {
     let mut i: usize = 0;
@@ -49,6 +58,36 @@ pub fn find(c: Channel, id: RequestId) -> Found
         i += 1;
     }
     Found::Nothing
+}
+
+// What a row says is open there.
+fn as_held(at: usize, row: Row) -> Held
+    ensures { λ r. ⌜ r ≡ heldBy at (row .sort) ⌝ }
+{
+    let sort = row.sort;
+    match sort {
+        Sort::Free => Held::Nothing,
+        Sort::Io(o) => Held::Io(at, o),
+        Sort::In(o) => Held::In(at, o),
+        Sort::Out(o) => Held::Out(at, o),
+    }
+}
+
+// What is open on the channel under an id.
+pub fn under(c: Channel, id: RequestId) -> Held
+    ensures { λ r. ⌜ r ≡ heldOf c id ⌝ }
+{
+    match find(c, id) {
+        Found::Nothing => Held::Nothing,
+        Found::At(at) => {
+            if at < 16 {
+                let row = c.rows[at];
+                as_held(at, row)
+            } else {
+                Held::Nothing // no row stands there
+            }
+        }
+    }
 }
 
 pub fn lowest_free(c: Channel) -> Found

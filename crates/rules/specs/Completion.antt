@@ -1,0 +1,68 @@
+-- 01 "Completions, cancel, retract".
+use Prim.Native.Nat.{ℕ}
+use mathlib.Core.Bool.{Bool, cond}
+use lib.Dec.{ltb, eqb}
+use Rattle.words.specs.Hresult.{succeeded}
+use Rattle.words.specs.declared.ids.RequestId.{RequestId}
+use Rattle.words.specs.declared.kind.Kind.{Kind}
+use Rattle.words.specs.declared.layout.Part.{Part}
+use Rattle.wire.specs.Message.{emptyPart}
+use Rattle.wire.specs.declared.message.IoCompleted.{IoCompleted}
+use Rattle.wire.specs.declared.message.UrbCompleted.{UrbCompleted}
+use Rattle.channel.specs.declared.row.Open.{Open}
+use Rattle.channel.specs.declared.channel.Held.{Held}
+use Rattle.channel.specs.declared.channel.Held.the-variants.{Nothing, Io, In, Out}
+use Rattle.rules.specs.Verdict.{accepted, refused}
+use Rattle.rules.specs.declared.answer.Answer.the-variants.{NotOpen, WrongSort, TooMuch, Disagrees}
+use Rattle.rules.specs.declared.verdict.Act.the-variants.{Keep, Free}
+use Rattle.rules.specs.declared.verdict.Verdict.{Verdict}
+
+-- the request's row is freed, and the number of the request's entry is the cause
+abbrev pub closes : Kind → ℕ → Open → RequestId → ℕ → Part → Verdict
+closes kind at o id size payload = accepted kind (id .0) (o .number) size payload (Free at)
+
+-- 14: success needs Information equal to the size; 0x8007007A needs the size equal to the request's; otherwise size 0
+abbrev pub resultAgrees : IoCompleted → Open → Bool
+resultAgrees c o =
+    cond (succeeded (c .result)) (eqb (c .information) (c .size))
+    (cond (eqb (c .result) 0x8007007A) (eqb (c .size) (o .size))
+    (eqb (c .size) 0))
+
+-- 13, then 14
+abbrev pub ioClosed : Kind → IoCompleted → ℕ → Open → Verdict
+ioClosed kind c at o =
+    cond (ltb (o .size) (c .size)) (refused kind TooMuch)
+    (cond (resultAgrees c o) (closes kind at o (c .request) (c .size) (c .payload)) (refused kind Disagrees))
+
+-- kind 15 closes IO requests, else 12; 11 where the id is not open
+abbrev pub ioCompleted : Kind → IoCompleted → Held → Verdict
+ioCompleted kind c Nothing = refused kind NotOpen
+ioCompleted kind c (Io at o) = ioClosed kind c at o
+ioCompleted kind c (In at o) = refused kind WrongSort
+ioCompleted kind c (Out at o) = refused kind WrongSort
+
+-- 13: a transfer is completed with at most so much data
+abbrev pub urbClosed : Kind → UrbCompleted → ℕ → ℕ → Open → Verdict
+urbClosed kind c most at o =
+    cond (ltb most (c .size)) (refused kind TooMuch) (closes kind at o (c .request) (c .size) (c .payload))
+
+-- kind 16 closes transfers in
+abbrev pub urbCompleted : Kind → UrbCompleted → Held → Verdict
+urbCompleted kind c Nothing = refused kind NotOpen
+urbCompleted kind c (Io at o) = refused kind WrongSort
+urbCompleted kind c (In at o) = urbClosed kind c (o .size) at o
+urbCompleted kind c (Out at o) = refused kind WrongSort
+
+-- kind 17 closes both transfers: of a transfer in with size 0
+abbrev pub noDataCompleted : Kind → UrbCompleted → Held → Verdict
+noDataCompleted kind c Nothing = refused kind NotOpen
+noDataCompleted kind c (Io at o) = refused kind WrongSort
+noDataCompleted kind c (In at o) = urbClosed kind c 0 at o
+noDataCompleted kind c (Out at o) = urbClosed kind c (o .size) at o
+
+-- a cancel of an open id closes its row at once; of any other id it is accepted and does nothing
+abbrev pub cancelled : Kind → RequestId → Held → Verdict
+cancelled kind id Nothing = accepted kind (id .0) 0 0 emptyPart Keep
+cancelled kind id (Io at o) = closes kind at o id 0 emptyPart
+cancelled kind id (In at o) = closes kind at o id 0 emptyPart
+cancelled kind id (Out at o) = closes kind at o id 0 emptyPart

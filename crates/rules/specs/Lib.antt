@@ -1,0 +1,6 @@
+pub mod Answer
+pub mod Phase
+pub mod Verdict
+pub mod Request
+pub mod Completion
+pub mod Decide
