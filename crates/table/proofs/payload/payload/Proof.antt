@@ -1,0 +1,14 @@
+-- `table::payload::payload` meets its contract.
+use Rattle.table.specs.Payload.{payloadOf}
+use borrow.Author.Needs.{needs}
+use Rattle.table.proofs.payload.payload.Statement.{statement}
+use Rattle.table.proofs.payload.payload.Tie as tie
+
+pub payload-spec : {M : Type 1} → statement M
+unfolding payloadOf
+payload-spec =
+    tie.close
+    (tie.spec
+    (search needs)
+    (search needs)
+    (λ c. rw (← (c .before .shown .ensures)) (c .cut .ensures)))

@@ -1,0 +1,34 @@
+-- 01 "Payload": of an accepted message its input or output bytes, of all else the empty part; against the table before the message is judged.
+use Prim.Native.Nat.{ℕ, _-_}
+use mathlib.Core.List.{List, []}
+use mathlib.Core.Bool.{cond}
+use lib.ListN.{length, take, drop}
+use lib.Dec.{ltb}
+use Rattle.words.specs.declared.layout.Part.{Part}
+use Rattle.wire.specs.Message.{emptyPart}
+use Rattle.rules.specs.declared.verdict.Verdict.{Verdict}
+use Rattle.rules.specs.declared.verdict.Verdict.the-variants.{Refused, Accepted}
+use Rattle.table.specs.Table.{channelOf, noPlace, usedUp}
+use Rattle.table.specs.Turn.{verdictOf}
+use Rattle.table.specs.declared.table.Table.{Table}
+
+abbrev pub shownBy : Verdict → Part
+shownBy (Refused kind a) = emptyPart
+shownBy (Accepted a) = a .payload
+
+-- where the payload lies
+unfoldable pub shownOf : Table → ℕ → ℕ → List ℕ → Part
+shownOf t channel side m =
+    cond (usedUp (t .next)) emptyPart
+    (cond (noPlace channel side) emptyPart
+    (shownBy (verdictOf (channelOf t channel) (t .next) side m)))
+
+-- the bytes of a part; of one that would reach beyond the message none
+unfoldable pub cutOf : List ℕ → Part → List ℕ
+cutOf m p =
+    cond (ltb (length m) (p .start)) []
+    (cond (ltb (length m - p .start) (p .size)) []
+    (take (p .size) (drop (p .start) m)))
+
+unfoldable pub payloadOf : Table → ℕ → ℕ → List ℕ → List ℕ
+payloadOf t channel side m = cutOf m (shownOf t channel side m)

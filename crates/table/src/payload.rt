@@ -1,0 +1,52 @@
+// 01 "Payload": the input or output bytes of an accepted message, as a part of the message that was lent.
+use crate::table;
+use crate::table::Table;
+use crate::turn;
+use rules::verdict::Verdict;
+use words::layout::Part;
+ghost use mathlib.Core.Path.{_≡_};
+ghost use Rattle.table.specs.Payload.{cutOf, payloadOf, shownOf};
+
+// Where the payload lies; an empty part where the message is refused or has none.
+fn shown(table: Table, channel: u8, side: u8, m: &[u8]) -> Part
+    ensures { λ r. ⌜ r ≡ shownOf table channel side (now (m .entry)) ⌝ }
+{
+    let nothing = Part { start: 0, size: 0 };
+    if table::used_up(table.next) {
+        return nothing;
+    }
+    if 7 < channel {
+        return nothing;
+    }
+    if !table::of_side(side) {
+        return nothing;
+    }
+    let c = table.channels[channel as usize];
+    match turn::judge(c, table.next, side, m) {
+        Verdict::Refused(_, _) => nothing,
+        Verdict::Accepted(a) => a.payload,
+    }
+}
+
+// The bytes of a part. A part that would reach beyond the message gives the empty part.
+fn cut(m: &[u8], part: Part) -> &[u8]
+    ensures { λ r. ⌜ now r ≡ cutOf (now (m .entry)) part ⌝ }
+{
+    if m.len() < part.start {
+        return &m[0..0];
+    }
+    if m.len() - part.start < part.size {
+        return &m[0..0];
+    }
+    let start = part.start;
+    let end = start + part.size;
+    &m[start..end]
+}
+
+// The payload of a message, against the table as it was before the message was judged. It uses no number.
+pub fn payload(table: Table, channel: u8, side: u8, m: &[u8]) -> &[u8]
+    ensures { λ r. ⌜ now r ≡ payloadOf table channel side (now (m .entry)) ⌝ }
+{
+    let part = shown(table, channel, side, m);
+    cut(m, part)
+}
