@@ -13,7 +13,7 @@ use Rattle.channel.specs.declared.row.Open.{Open}
 use Rattle.channel.specs.declared.channel.Held.{Held}
 use Rattle.channel.specs.declared.channel.Held.the-variants.{Nothing, Io, In, Out}
 use Rattle.rules.specs.Verdict.{accepted, refused}
-use Rattle.rules.specs.declared.answer.Answer.the-variants.{NotOpen, WrongSort, TooMuch, Disagrees}
+use Rattle.answers.specs.declared.answer.Answer.the-variants.{NotOpen, WrongSort, TooMuch, Disagrees}
 use Rattle.rules.specs.declared.verdict.Act.the-variants.{Keep, Free}
 use Rattle.rules.specs.declared.verdict.Verdict.{Verdict}
 

@@ -1,5 +1,3 @@
-pub mod Answer
-pub mod Phase
 pub mod Verdict
 pub mod Request
 pub mod Completion

@@ -11,9 +11,9 @@ use Rattle.channel.specs.declared.channel.Found.{Found}
 use Rattle.channel.specs.declared.channel.Found.the-variants as found
 use Rattle.channel.specs.declared.channel.Held.{Held}
 use Rattle.channel.specs.declared.channel.Held.the-variants as held
-use Rattle.rules.specs.Phase.{phasesOf}
+use Rattle.answers.specs.Phase.{phasesOf}
 use Rattle.rules.specs.Verdict.{accepted, refused}
-use Rattle.rules.specs.declared.answer.Answer.the-variants.{Value, AlreadyOpen, Full}
+use Rattle.answers.specs.declared.answer.Answer.the-variants.{Value, AlreadyOpen, Full}
 use Rattle.rules.specs.declared.verdict.Act.the-variants.{Keep, Take}
 use Rattle.rules.specs.declared.verdict.Verdict.{Verdict}
 use Rattle.rules.specs.declared.verdict.Verdict.the-variants.{Accepted}

@@ -1,8 +1,8 @@
 // 01 "Completions, cancel, retract": which request a completion may close, and with how much data.
-use crate::answer::Answer;
 use crate::verdict;
 use crate::verdict::Act;
 use crate::verdict::Verdict;
+use answers::answer::Answer;
 use channel::channel::Held;
 use channel::row::Open;
 use wire::message::IoCompleted;

@@ -1,10 +1,10 @@
 // The rules' one call: what a message asks, and what was found in the channel's rows, give the answer (7 to 14, 0), the entry and what is done.
-use crate::answer::Answer;
 use crate::completion;
 use crate::request;
 use crate::verdict;
 use crate::verdict::Act;
 use crate::verdict::Verdict;
+use answers::answer::Answer;
 use channel::channel::Found;
 use channel::channel::Held;
 use channel::row::Sort;

@@ -1,7 +1,5 @@
-// 01's rules for what a message asks of a channel: the answers and their order, the phases, and what the rows allow. No row is looked at or kept here.
-pub mod answer;
+// 01's rules for what a message asks of a channel: what the rows allow, and what is done. No row is looked at or kept here.
 pub mod completion;
 pub mod decide;
-pub mod phase;
 pub mod request;
 pub mod verdict;

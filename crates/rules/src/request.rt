@@ -1,10 +1,10 @@
 // Requests (kinds 8 to 12): answers 9 and 10, and the row that a request takes.
-use crate::answer::Answer;
-use crate::phase;
 use crate::verdict;
 use crate::verdict::Accepted;
 use crate::verdict::Act;
 use crate::verdict::Verdict;
+use answers::answer::Answer;
+use answers::phase;
 use channel::channel::Found;
 use channel::channel::Held;
 use channel::row::Open;

@@ -1,6 +1,6 @@
 // What the rules say of a message: refused, or accepted and with what.
-use crate::answer::Answer;
-use crate::phase;
+use answers::answer::Answer;
+use answers::phase;
 use channel::row::Row;
 use words::ids::InterfaceId;
 use words::ids::Known;

@@ -9,7 +9,7 @@ use Rattle.wire.specs.Message.{emptyPart}
 use Rattle.rules.specs.declared.verdict.Verdict.{Verdict}
 use Rattle.rules.specs.declared.verdict.Verdict.the-variants.{Refused, Accepted}
 use Rattle.table.specs.Table.{channelOf, noPlace, usedUp}
-use Rattle.table.specs.Turn.{verdictOf}
+use Rattle.turn.specs.Step.{verdictOf}
 use Rattle.table.specs.declared.table.Table.{Table}
 
 abbrev pub shownBy : Verdict → Part

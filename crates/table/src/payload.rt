@@ -1,8 +1,8 @@
 // 01 "Payload": the input or output bytes of an accepted message, as a part of the message that was lent.
 use crate::table;
 use crate::table::Table;
-use crate::turn;
 use rules::verdict::Verdict;
+use turn::step;
 use words::layout::Part;
 ghost use mathlib.Core.Path.{_≡_};
 ghost use Rattle.table.specs.Payload.{cutOf, payloadOf, shownOf};
@@ -22,7 +22,7 @@ fn shown(table: Table, channel: u8, side: u8, m: &[u8]) -> Part
         return nothing;
     }
     let c = table.channels[channel as usize];
-    match turn::judge(c, table.next, side, m) {
+    match step::judge(c, table.next, side, m) {
         Verdict::Refused(_, _) => nothing,
         Verdict::Accepted(a) => a.payload,
     }
