@@ -18,4 +18,5 @@ pub mod UrbCompletionNoData
 pub mod Message
 pub mod Reading
 pub mod Payload
+pub mod Assigned
 pub mod Sizes

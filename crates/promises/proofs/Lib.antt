@@ -1,0 +1,3 @@
+pub mod Verdicts
+pub mod Demand1
+pub mod Stamp

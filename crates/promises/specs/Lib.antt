@@ -1,0 +1,5 @@
+pub mod Calls
+pub mod Demand1
+pub mod Stamp
+pub mod Sound
+
