@@ -1,3 +1,4 @@
 pub mod Verdicts
 pub mod Demand1
 pub mod Stamp
+pub mod Sound

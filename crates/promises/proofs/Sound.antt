@@ -1,0 +1,284 @@
+-- Every table that is reached from a new one is sound.
+use Prim.Native.Nat.{ℕ, zero, suc, _+_, _<_, _≤_}
+use native.Mathlib.Omega.{arith}
+use mathlib.Core.Path.{_≡_, refl, sym, ap, subst, _∙_}
+use mathlib.Core.Logic.{_⊎_, inl, inr}
+use mathlib.Core.List.{List, [], _∷_}
+use mathlib.Core.Bool.{Bool, true, false, cond, _||_, true≢false}
+use lib.ListN.{getD, length, set, replicate}
+use lib.Dec.{ltb, eqb}
+use borrow.Author.Tests.{eqb-true, eqb-false}
+use Rattle.words.proofs.Steps.{either}
+use Rattle.words.specs.Header.{headerOf}
+use Rattle.words.specs.declared.header.HeaderRead.{HeaderRead}
+use Rattle.words.specs.declared.header.HeaderRead.the-variants as header
+use Rattle.words.specs.declared.ids.Known.{Known}
+use Rattle.words.specs.declared.ids.RequestId.{RequestId}
+use Rattle.words.specs.declared.kind.Kind.{Kind}
+use Rattle.wire.specs.Assigned.{Assigned, Given}
+use Rattle.wire.specs.Kinds.{firstFitting, kinds}
+use Rattle.wire.specs.Message.{askedOf}
+use Rattle.wire.specs.declared.kind.KindFound.{KindFound}
+use Rattle.wire.specs.declared.kind.KindFound.the-variants as kind
+use Rattle.wire.specs.declared.message.Asked.{Asked}
+use Rattle.wire.specs.declared.message.Asked.the-variants as asks
+use Rattle.wire.specs.declared.message.IoCompleted.{IoCompleted}
+use Rattle.wire.specs.declared.message.Request.{Request}
+use Rattle.wire.specs.declared.message.UrbCompleted.{UrbCompleted}
+use Rattle.wire.proofs.Assigned.{assigned}
+use Rattle.channel.specs.Rows.{freeRow, heldOf, holds, holdsBy, lowestOf, newChannel, withRow}
+use Rattle.channel.specs.declared.row.Open.{Open}
+use Rattle.channel.specs.declared.row.Row.{Row}
+use Rattle.channel.specs.declared.row.Sort.{Sort}
+use Rattle.channel.specs.declared.row.Sort.the-variants.{Free, Io, In, Out}
+use Rattle.channel.specs.declared.channel.Channel.{Channel}
+use Rattle.channel.specs.declared.channel.Found.{Found}
+use Rattle.channel.specs.declared.channel.Found.the-variants as found
+use Rattle.channel.specs.declared.channel.Held.{Held}
+use Rattle.channel.specs.declared.channel.Held.the-variants as held
+use Rattle.channel.proofs.Laws.{all-alike, nothing-held, set-read}
+use Rattle.answers.specs.Phase.{phasesOf}
+use Rattle.rules.specs.Request.{opened, taken, transferOutDecided}
+use Rattle.rules.specs.Completion.{cancelled, ioCompleted, noDataCompleted, resultAgrees, urbClosed, urbCompleted}
+use Rattle.rules.specs.Decide.{decided}
+use Rattle.rules.specs.declared.verdict.Act.{Act}
+use Rattle.rules.specs.declared.verdict.Act.the-variants as act
+use Rattle.rules.specs.declared.verdict.Verdict.{Verdict}
+use Rattle.rules.specs.declared.verdict.Verdict.the-variants.{Refused, Accepted}
+use Rattle.turn.specs.Admit.{admitted, asksAs, asksIn, fromHead, fromHeader}
+use Rattle.turn.specs.Step.{afterOf, verdictBy, verdictOf}
+use Rattle.turn.specs.Store.{done, hereOf, seenOf, stored}
+use Rattle.turn.specs.declared.admit.Admitted.{Admitted}
+use Rattle.turn.specs.declared.admit.Admitted.the-variants as admit
+use Rattle.table.specs.Table.{blankChannel, channelOf, closeOf, judgeOf, noPlace, openOf, usedUp}
+use Rattle.table.specs.declared.table.Judged.{Judged}
+use Rattle.table.specs.declared.table.Table.{Table}
+use Rattle.promises.specs.Calls.{after, Asks, Call, called, calledBy, closing, judging}
+use Rattle.promises.specs.Sound.{Numbered, rowOf, Sound, SoundChannel}
+
+-- What an act asks of the channel that it is done to, so that it stays sound: n is the call's number.
+abbrev Fits : Channel → ℕ → Act → Type 0
+Fits c n act.Keep = Unit {0}
+Fits c n (act.Device id ms) = 4 ≤ id .0
+Fits c n (act.Callback known) = Given known
+Fits c n (act.Take at row) = Numbered (n + 1) (row .sort) × ((id : RequestId) → holds id row ≡ true → (i : ℕ) → holds id (rowOf c i) ≡ false)
+Fits c n (act.Free at) = Unit {0}
+Fits c n act.Empty = Unit {0}
+
+abbrev Safe : Channel → ℕ → Verdict → Type 0
+Safe c n (Refused k a) = Unit {0}
+Safe c n (Accepted a) = Fits c n (a .act)
+
+names-it : (r : Request) (id : RequestId) → eqb (r .request .0) (id .0) ≡ true → r .request ≡ id
+names-it r id e = ap (λ (x : ℕ). record { 0 = x }) (eqb-true (r .request .0) (id .0) e)
+
+-- a request that is given a row: its id is open nowhere else
+taken-safe : (c : Channel) (n : ℕ) (k : Kind) (r : Request) (s : Sort) → Numbered (n + 1) s → ((id : RequestId) → holdsBy id s ≡ true → r .request ≡ id)
+    → (here : Held) → heldOf c (r .request) ≡ here → (free : Found) → Safe c n (taken k r s here free)
+unfolding taken
+taken-safe c n k r s num nm held.Nothing e (found.At at) =
+    (num, λ id h i. subst (λ q. holds q (rowOf c i) ≡ false) (nm id h) (nothing-held c (r .request) e i))
+taken-safe c n k r s num nm held.Nothing e found.Nothing = tt
+taken-safe c n k r s num nm (held.Io at o) e free = tt
+taken-safe c n k r s num nm (held.In at o) e free = tt
+taken-safe c n k r s num nm (held.Out at o) e free = tt
+
+out-safe : (c : Channel) (n : ℕ) (k : Kind) (r : Request) (jitter : ℕ) → 1 ≤ n → Safe c n (transferOutDecided k r n jitter (heldOf c (r .request)) (lowestOf c))
+unfolding opened
+out-safe c n k r jitter h =
+    either (Safe c n) (r .noack) _ _ (λ e. either (Safe c n) (eqb jitter 0) _ _ (λ f. tt) (λ f. tt))
+    (λ e. taken-safe c n k r (Out (opened r n)) (h, omega arith) (names-it r) (heldOf c (r .request)) refl (lowestOf c))
+
+io-safe : (c : Channel) (n : ℕ) (k : Kind) (d : IoCompleted) (here : Held) → Safe c n (ioCompleted k d here)
+io-safe c n k d held.Nothing = tt
+io-safe c n k d (held.Io at o) =
+    either (Safe c n) (ltb (o .size) (d .size)) _ _ (λ e. tt) (λ e. either (Safe c n) (resultAgrees d o) _ _ (λ f. tt) (λ f. tt))
+io-safe c n k d (held.In at o) = tt
+io-safe c n k d (held.Out at o) = tt
+
+closed-safe : (c : Channel) (n : ℕ) (k : Kind) (d : UrbCompleted) (most at : ℕ) (o : Open) → Safe c n (urbClosed k d most at o)
+closed-safe c n k d most at o = either (Safe c n) (ltb most (d .size)) _ _ (λ e. tt) (λ e. tt)
+
+urb-safe : (c : Channel) (n : ℕ) (k : Kind) (d : UrbCompleted) (here : Held) → Safe c n (urbCompleted k d here)
+urb-safe c n k d held.Nothing = tt
+urb-safe c n k d (held.Io at o) = tt
+urb-safe c n k d (held.In at o) = closed-safe c n k d (o .size) at o
+urb-safe c n k d (held.Out at o) = tt
+
+no-data-safe : (c : Channel) (n : ℕ) (k : Kind) (d : UrbCompleted) (here : Held) → Safe c n (noDataCompleted k d here)
+no-data-safe c n k d held.Nothing = tt
+no-data-safe c n k d (held.Io at o) = tt
+no-data-safe c n k d (held.In at o) = closed-safe c n k d 0 at o
+no-data-safe c n k d (held.Out at o) = closed-safe c n k d (o .size) at o
+
+cancelled-safe : (c : Channel) (n : ℕ) (k : Kind) (id : RequestId) (here : Held) → Safe c n (cancelled k id here)
+cancelled-safe c n k id held.Nothing = tt
+cancelled-safe c n k id (held.Io at o) = tt
+cancelled-safe c n k id (held.In at o) = tt
+cancelled-safe c n k id (held.Out at o) = tt
+
+decided-safe : (c : Channel) (n : ℕ) (k : Kind) (a : Asked) → 1 ≤ n → Assigned a → Safe c n (decided k a n (c .jitter) (seenOf c a))
+unfolding decided hereOf opened
+decided-safe c n k (asks.Fails fault) h g = tt
+decided-safe c n k asks.Value h g = tt
+decided-safe c n k asks.Step h g = tt
+decided-safe c n k (asks.Device id ms) h g = g
+decided-safe c n k (asks.Callback id) h g = g
+decided-safe c n k (asks.IoControl r) h g =
+    taken-safe c n k r (Io (opened r n)) (h, omega arith) (names-it r) (heldOf c (r .request)) refl (lowestOf c)
+decided-safe c n k (asks.TransferIn r) h g =
+    taken-safe c n k r (In (opened r n)) (h, omega arith) (names-it r) (heldOf c (r .request)) refl (lowestOf c)
+decided-safe c n k (asks.TransferOut r) h g = out-safe c n k r (c .jitter) h
+decided-safe c n k (asks.Cancel id) h g = cancelled-safe c n k id (heldOf c id)
+decided-safe c n k asks.Retract h g = tt
+decided-safe c n k (asks.IoCompletion d) h g = io-safe c n k d (heldOf c (d .request))
+decided-safe c n k (asks.UrbCompletion d) h g = urb-safe c n k d (heldOf c (d .request))
+decided-safe c n k (asks.UrbCompletionNoData d) h g = no-data-safe c n k d (heldOf c (d .request))
+
+-- what is admitted asks only for interfaces that may be given
+abbrev Learns : Admitted → Type 0
+Learns (admit.Refused k a) = Unit {0}
+Learns (admit.Asks k a) = Assigned a
+
+as-learns : (phase : ℕ) (k : KindFound) (m : List ℕ) → Learns (asksAs phase k m)
+unfolding asksIn
+as-learns phase kind.Nothing m = tt
+as-learns phase (kind.Is k) m = either Learns (eqb (phasesOf k .before) phase) _ _ (λ e. assigned k m) (λ e. tt)
+
+head-learns : (phase : ℕ) (d b : Known) (side : ℕ) (h : HeaderRead) (m : List ℕ) → Learns (fromHead phase d b side h m)
+unfolding fromHeader
+head-learns phase d b side header.Short m = tt
+head-learns phase d b side (header.Is h) m =
+    either Learns (ltb 65535 (length m)) _ _ (λ e. tt) (λ e. as-learns phase (firstFitting kinds h side d b) m)
+
+by-safe : (c : Channel) (n : ℕ) (a : Admitted) → 1 ≤ n → Learns a → Safe c n (verdictBy c n a)
+by-safe c n (admit.Refused k a) h g = tt
+by-safe c n (admit.Asks k a) h g = decided-safe c n k a h g
+
+safe : (c : Channel) (n side : ℕ) (m : List ℕ) → 1 ≤ n → Safe c n (verdictOf c n side m)
+unfolding verdictOf admitted
+safe c n side m h =
+    by-safe c n (admitted (c .phase) (c .device) (c .callback) side m) h (head-learns (c .phase) (c .device) (c .callback) side (headerOf m) m)
+
+-- what holds below a number holds below the next
+older : (n : ℕ) (s : Sort) → Numbered n s → Numbered (n + 1) s
+older n Free h = tt
+older n (Io o) h = (h .0, omega (arith, h .1))
+older n (In o) h = (h .0, omega (arith, h .1))
+older n (Out o) h = (h .0, omega (arith, h .1))
+
+kept : (n : ℕ) (c : Channel) → SoundChannel n c → SoundChannel (n + 1) c
+kept n c s = record { device = s .device; callback = s .callback; numbers = λ i. older n (rowOf c i .sort) (s .numbers i); once = s .once }
+
+-- a row is put where its id stands nowhere else
+put : (n : ℕ) (c : Channel) (at : ℕ) (row : Row) → SoundChannel n c → Numbered (n + 1) (row .sort)
+    → ((id : RequestId) → holds id row ≡ true → (i : ℕ) → holds id (rowOf c i) ≡ false) → SoundChannel (n + 1) (withRow c at row)
+put n c at row s num alone = record {
+  device = s .device;
+  callback = s .callback;
+  numbers = λ i. number i (set-read (c .rows) at row i freeRow);
+  once = λ id i j p q. apart id i j p q (set-read (c .rows) at row i freeRow) (set-read (c .rows) at row j freeRow);
+}
+  where
+    now : ℕ → Row
+    now i = getD (set (c .rows) at row) i freeRow
+
+    number : (i : ℕ) → (now i ≡ rowOf c i) ⊎ ((at ≡ i) × (now i ≡ row)) → Numbered (n + 1) (now i .sort)
+    number i (inl e) = subst (λ r. Numbered (n + 1) (r .sort)) (sym e) (older n (rowOf c i .sort) (s .numbers i))
+    number i (inr e) = subst (λ r. Numbered (n + 1) (r .sort)) (sym (e .1)) num
+
+    apart : (id : RequestId) (i j : ℕ) → holds id (now i) ≡ true → holds id (now j) ≡ true
+        → (now i ≡ rowOf c i) ⊎ ((at ≡ i) × (now i ≡ row)) → (now j ≡ rowOf c j) ⊎ ((at ≡ j) × (now j ≡ row)) → i ≡ j
+    apart id i j p q (inl e) (inl f) = s .once id i j (ap (holds id) (sym e) ∙ p) (ap (holds id) (sym f) ∙ q)
+    apart id i j p q (inl e) (inr f) = absurd (true≢false (sym p ∙ ap (holds id) e ∙ alone id (ap (holds id) (sym (f .1)) ∙ q) i))
+    apart id i j p q (inr e) (inl f) = absurd (true≢false (sym q ∙ ap (holds id) f ∙ alone id (ap (holds id) (sym (e .1)) ∙ p) j))
+    apart id i j p q (inr e) (inr f) = sym (e .0) ∙ f .0
+
+empty-number : (n i : ℕ) → Numbered n (getD (replicate 16 freeRow) i freeRow .sort)
+empty-number n i = subst (λ r. Numbered n (r .sort)) (sym (all-alike 16 freeRow i)) tt
+
+empty-holds : (id : RequestId) (i : ℕ) → holds id (getD (replicate 16 freeRow) i freeRow) ≡ true → ⊥
+empty-holds id i p = true≢false (sym p ∙ ap (holds id) (all-alike 16 freeRow i))
+
+acted : (n : ℕ) (c : Channel) (phase : ℕ) (a : Act) → SoundChannel n c → Fits c n a → SoundChannel (n + 1) (stored c phase a)
+unfolding stored
+acted n c phase act.Keep s f = let r = kept n c s in record { device = r .device; callback = r .callback; numbers = r .numbers; once = r .once }
+acted n c phase (act.Device id ms) s f = let r = kept n c s in record { device = f; callback = r .callback; numbers = r .numbers; once = r .once }
+acted n c phase (act.Callback known) s f = let r = kept n c s in record { device = r .device; callback = f; numbers = r .numbers; once = r .once }
+acted n c phase (act.Take at row) s f =
+    let r = put n c at row s (f .0) (f .1) in record { device = r .device; callback = r .callback; numbers = r .numbers; once = r .once }
+acted n c phase (act.Free at) s f =
+    let r = put n c at freeRow s tt (λ id p. absurd (true≢false (sym p))) in
+    record { device = r .device; callback = r .callback; numbers = r .numbers; once = r .once }
+acted n c phase act.Empty s f =
+    record { device = s .device; callback = s .callback; numbers = empty-number (n + 1); once = λ id i j p q. absurd (empty-holds id i p) }
+
+said : (n : ℕ) (c : Channel) (v : Verdict) → SoundChannel n c → Safe c n v → SoundChannel (n + 1) (afterOf c v)
+unfolding afterOf
+said n c (Refused k a) s f = kept n c s
+said n c (Accepted a) s f = acted n c (a .phase) (a .act) s f
+
+new-sound : (n : ℕ) → SoundChannel n newChannel
+new-sound n = record { device = tt; callback = tt; numbers = empty-number n; once = λ id i j p q. absurd (empty-holds id i p) }
+
+blank-sound : (n : ℕ) → SoundChannel n blankChannel
+blank-sound n = record { device = tt; callback = tt; numbers = nothing; once = λ id i j p q. absurd (no id i p) }
+  where
+    nothing : (i : ℕ) → Numbered n (rowOf blankChannel i .sort)
+    nothing zero = tt
+    nothing (suc i) = tt
+
+    no : (id : RequestId) (i : ℕ) → holds id (rowOf blankChannel i) ≡ true → ⊥
+    no id zero p = true≢false (sym p)
+    no id (suc i) p = true≢false (sym p)
+
+-- one channel is put back, and a number is used
+moved-sound : (t : Table) (at : ℕ) (c : Channel) → Sound t → SoundChannel (t .next + 1) c → Sound (record { next = t .next + 1; channels = set (t .channels) at c })
+moved-sound t at c s h i = go (set-read (t .channels) at c i blankChannel)
+  where
+    go : (getD (set (t .channels) at c) i blankChannel ≡ channelOf t i) ⊎ ((at ≡ i) × (getD (set (t .channels) at c) i blankChannel ≡ c))
+        → SoundChannel (t .next + 1) (getD (set (t .channels) at c) i blankChannel)
+    go (inl e) = subst (SoundChannel (t .next + 1)) (sym e) (kept (t .next) (channelOf t i) (s i))
+    go (inr e) = subst (SoundChannel (t .next + 1)) (sym (e .1)) h
+
+usable : (n : ℕ) → usedUp n ≡ false → 1 ≤ n
+usable n e = let z = eqb-false n 0 (go (eqb n 0) (eqb n 4294967295) e) in omega (arith, z)
+  where
+    go : (a b : Bool) → (a || b) ≡ false → a ≡ false
+    go true b e = e
+    go false b e = refl
+
+by-call : (t : Table) (channel : ℕ) (a : Asks) → Sound t → Sound (calledBy t channel a .table)
+unfolding judgeOf closeOf
+by-call t channel (judging side stamp m) s =
+    either (λ (j : Judged). Sound (j .table)) (usedUp (t .next)) _ _ (λ e. s)
+    (λ e. either (λ (j : Judged). Sound (j .table)) (noPlace channel side) _ _ (λ f i. kept (t .next) (channelOf t i) (s i))
+    (λ f. moved-sound t channel _ s
+    (said (t .next) (channelOf t channel) (verdictOf (channelOf t channel) (t .next) side m) (s channel)
+    (safe (channelOf t channel) (t .next) side m (usable (t .next) e)))))
+by-call t channel (closing stamp) s =
+    either (λ (j : Judged). Sound (j .table)) (usedUp (t .next)) _ _ (λ e. s)
+    (λ e. either (λ (j : Judged). Sound (j .table)) (ltb 7 channel) _ _ (λ f i. kept (t .next) (channelOf t i) (s i))
+    (λ f. moved-sound t channel newChannel s (new-sound (t .next + 1))))
+
+-- Both calls keep a table sound.
+pub sound-call : (t : Table) (x : Call) → Sound t → Sound (called t x .table)
+sound-call t x s = by-call t (x .channel) (x .asks) s
+
+pub sound-open : (first : ℕ) → Sound (openOf first)
+sound-open first i = go 8 i
+  where
+    go : (n i : ℕ) → SoundChannel first (getD (replicate n newChannel) i blankChannel)
+    go zero zero = blank-sound first
+    go zero (suc i) = blank-sound first
+    go (suc n) zero = new-sound first
+    go (suc n) (suc i) = go n i
+
+pub sound-after : (t : Table) (xs : List Call) → Sound t → Sound (after t xs)
+sound-after t [] s = s
+sound-after t (x ∷ xs) s = sound-after (called t x .table) xs (sound-call t x s)
+
+-- On every table that is reached from a new one device and callback are never 0 to 3, no id stands twice on a channel, and every row's number is
+-- at least 1 and below the next.
+pub reached-sound : (first : ℕ) (xs : List Call) → Sound (after (openOf first) xs)
+reached-sound first xs = sound-after (openOf first) xs (sound-open first)
