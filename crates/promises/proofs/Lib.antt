@@ -2,3 +2,4 @@ pub mod Verdicts
 pub mod Demand1
 pub mod Stamp
 pub mod Sound
+pub mod Cases

@@ -2,4 +2,4 @@ pub mod Calls
 pub mod Demand1
 pub mod Stamp
 pub mod Sound
-
+pub mod Cases

@@ -1,0 +1,25 @@
+-- C1 to C12 hold, in one statement, of the definitions that the contracts cite: by computation.
+use mathlib.Core.Path.{_≡_, refl}
+use mathlib.Core.List.{map}
+use Rattle.words.specs.Header.{headerOf}
+use Rattle.wire.specs.Message.{askedOf}
+use Rattle.urb.specs.TsUrb.{oneSizeOf, structureOf, tsUrbOf}
+use Rattle.wire.specs.Transfer.{outputOf, transferOf, transferWith}
+use Rattle.wire.specs.TransferInRequest.{transferInRequestAllowed, transferInRequestOf}
+use Rattle.wire.specs.TsUrbResult.{completedOf, completionOf, completionWith}
+use Rattle.wire.specs.UrbCompletion.{urbCompletionOf, withOutputOf}
+use Rattle.wire.specs.CancelRequest.{cancelRequestOf}
+use Rattle.channel.specs.Rows.{firstFrom, heldOf, openCount}
+use Rattle.rules.specs.Request.{opened, taken}
+use Rattle.rules.specs.Decide.{decided}
+use Rattle.turn.specs.Admit.{admitted, asksIn, fromHeader}
+use Rattle.turn.specs.Step.{afterOf, verdictOf}
+use Rattle.turn.specs.Store.{hereOf, stored}
+use Rattle.table.specs.Entry.{answerOf, judgedEntry}
+use Rattle.table.specs.Payload.{cutOf, payloadOf, shownOf}
+use Rattle.table.specs.Table.{closeOf, judgeOf}
+use Rattle.promises.specs.Cases.{Case, cases, outcome}
+
+pub cases-hold : map outcome cases ≡ map (λ (k : Case). k .shows) cases
+unfolding cases judgeOf closeOf payloadOf shownOf cutOf answerOf judgedEntry afterOf verdictOf hereOf stored admitted asksIn fromHeader decided opened taken firstFrom heldOf openCount headerOf askedOf transferInRequestOf transferInRequestAllowed transferOf transferWith outputOf tsUrbOf structureOf oneSizeOf urbCompletionOf withOutputOf completionOf completionWith completedOf cancelRequestOf
+cases-hold = refl
