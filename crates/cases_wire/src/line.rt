@@ -1,6 +1,6 @@
 // What the readers say of one message, as the rest of a line.
-use wire::kind;
-use wire::kind::KindFound;
+use kinds::kind;
+use kinds::kind::KindFound;
 use wire::message;
 use wire::message::Asked;
 use wire::message::IoCompleted;

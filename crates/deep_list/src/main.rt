@@ -9,9 +9,9 @@
 // Two bytes on standard input make it that many interfaces, little-endian, in a message of the same length: tools/deep-list finds how
 // little stack each runs in. Compiled, the readers' calls are calls and not jumps, since each hands its slice on by way of its own frame:
 // an interface with no pipes costs two frames, 128 bytes, and the longest list under 700 KiB beside the message.
-use wire::kind;
-use wire::kind::KindFound;
-use wire::kind::Side;
+use kinds::kind;
+use kinds::kind::KindFound;
+use kinds::kind::Side;
 use wire::message;
 use wire::message::Asked;
 use words::header;

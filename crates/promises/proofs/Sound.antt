@@ -16,10 +16,10 @@ use Rattle.words.specs.declared.ids.Known.{Known}
 use Rattle.words.specs.declared.ids.RequestId.{RequestId}
 use Rattle.words.specs.declared.kind.Kind.{Kind}
 use Rattle.wire.specs.Assigned.{Assigned, Given}
-use Rattle.wire.specs.Kinds.{firstFitting, kinds}
+use Rattle.kinds.specs.Kinds.{firstFitting, kinds}
 use Rattle.wire.specs.Message.{askedOf}
-use Rattle.wire.specs.declared.kind.KindFound.{KindFound}
-use Rattle.wire.specs.declared.kind.KindFound.the-variants as kind
+use Rattle.kinds.specs.declared.kind.KindFound.{KindFound}
+use Rattle.kinds.specs.declared.kind.KindFound.the-variants as kind
 use Rattle.wire.specs.declared.message.Asked.{Asked}
 use Rattle.wire.specs.declared.message.Asked.the-variants as asks
 use Rattle.wire.specs.declared.message.IoCompleted.{IoCompleted}

@@ -11,10 +11,10 @@ use Rattle.words.specs.declared.header.HeaderRead.{HeaderRead}
 use Rattle.words.specs.declared.header.HeaderRead.the-variants as header
 use Rattle.words.specs.declared.ids.Known.{Known}
 use Rattle.words.specs.declared.kind.Kind.{Kind}
-use Rattle.wire.specs.Kinds.{firstFitting, kinds}
+use Rattle.kinds.specs.Kinds.{firstFitting, kinds}
 use Rattle.wire.specs.Message.{askedOf}
-use Rattle.wire.specs.declared.kind.KindFound.{KindFound}
-use Rattle.wire.specs.declared.kind.KindFound.the-variants as kind
+use Rattle.kinds.specs.declared.kind.KindFound.{KindFound}
+use Rattle.kinds.specs.declared.kind.KindFound.the-variants as kind
 use Rattle.answers.specs.Phase.{phasesOf}
 use Rattle.answers.specs.declared.answer.Answer.the-variants.{Short, Long, NoKind, WrongPhase}
 use Rattle.turn.specs.declared.admit.Admitted.{Admitted}

@@ -1,8 +1,8 @@
 // Answers 3 to 6, which go by the message and the channel's phase and interfaces alone; then what the message asks.
 use answers::answer::Answer;
 use answers::phase;
-use wire::kind::KindFound;
-use wire::kind::kind_of;
+use kinds::kind::KindFound;
+use kinds::kind::kind_of;
 use wire::message::Asked;
 use wire::message::ask;
 use words::header;

@@ -1,4 +1,3 @@
-pub mod Kinds
 pub mod CapabilityRequest
 pub mod CapabilityResponse
 pub mod ChannelCreated

@@ -7,8 +7,6 @@
 //       CompatibilityIds       a counted list of texts
 //       ContainerId            a counted text
 //       UsbDeviceCapabilities  28
-use crate::kind::Side;
-use crate::kind::calls;
 use crate::message::Asked;
 use device::device_capabilities;
 use device::device_capabilities::CapabilitiesRead;
@@ -16,14 +14,11 @@ use device::device_capabilities::DeviceCapabilities;
 use device::text;
 use device::text::Text;
 use device::text::TextRead;
-use words::header::Header;
 use words::ids::InterfaceId;
 use words::layout::Fault;
 use words::numbers::rest;
 use words::numbers::u32_at;
 ghost use mathlib.Core.Path.{_≡_};
-ghost use Rattle.words.specs.declared.ids.Known.the-variants.{Nothing};
-ghost use Rattle.wire.specs.Kinds.{fits, addDevice};
 ghost use Rattle.wire.specs.Message.{addDeviceAsked};
 ghost use Rattle.wire.specs.AddDevice.{addDeviceOf, pairOf, deviceOf, textPairAllowed, addDeviceAllowed};
 
@@ -62,19 +57,6 @@ impl AddDevice {
 pub enum PairRead {
     Fits(TextPair, usize),
     Fails(Fault),
-}
-
-pub(crate) fn fits(h: Header, side: u8) -> bool
-    ensures { λ r. ⌜ r ≡ fits addDevice h side Nothing Nothing ⌝ }
-{
-    calls(
-        h,
-        side,
-        AddDevice::INTERFACE,
-        Side::CLIENT,
-        AddDevice::MASK,
-        AddDevice::FUNCTION,
-    )
 }
 
 pub(crate) fn read(m: &[u8]) -> AddDeviceRead

@@ -1,13 +1,8 @@
 // ADD_VIRTUAL_CHANNEL (000 2.2.4.1), kind 5: a header and nothing behind it.
-use crate::kind::Side;
-use crate::kind::calls;
 use crate::message::Asked;
-use words::header::Header;
 use words::layout::Fault;
 use words::numbers::rest;
 ghost use mathlib.Core.Path.{_≡_};
-ghost use Rattle.words.specs.declared.ids.Known.the-variants.{Nothing};
-ghost use Rattle.wire.specs.Kinds.{fits, addVirtualChannel};
 ghost use Rattle.wire.specs.Message.{addVirtualChannelAsked};
 ghost use Rattle.wire.specs.AddVirtualChannel.{addVirtualChannelOf};
 
@@ -24,19 +19,6 @@ impl AddVirtualChannel {
     pub const INTERFACE: u32 = 1;
 
     pub const FUNCTION: u32 = 0x100;
-}
-
-pub(crate) fn fits(h: Header, side: u8) -> bool
-    ensures { λ r. ⌜ r ≡ fits addVirtualChannel h side Nothing Nothing ⌝ }
-{
-    calls(
-        h,
-        side,
-        AddVirtualChannel::INTERFACE,
-        Side::CLIENT,
-        AddVirtualChannel::MASK,
-        AddVirtualChannel::FUNCTION,
-    )
 }
 
 pub(crate) fn read(m: &[u8]) -> AddVirtualChannelRead

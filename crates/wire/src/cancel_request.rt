@@ -1,17 +1,11 @@
 // CANCEL_REQUEST (000 2.2.6.1), kind 13. Its interface is the device's.
 //
 //   12  RequestId  4
-use crate::kind::Side;
-use crate::kind::calls_known;
 use crate::message::Asked;
-use words::header::Header;
-use words::ids::Known;
 use words::ids::RequestId;
 use words::layout::Fault;
 use words::numbers::rest;
 ghost use mathlib.Core.Path.{_≡_};
-ghost use Rattle.words.specs.declared.ids.Known.the-variants.{Nothing};
-ghost use Rattle.wire.specs.Kinds.{fits, cancelRequest};
 ghost use Rattle.wire.specs.Message.{cancelRequestAsked};
 ghost use Rattle.wire.specs.CancelRequest.{cancelRequestOf};
 
@@ -28,19 +22,6 @@ impl CancelRequest {
     pub const MASK: u32 = 1;
 
     pub const FUNCTION: u32 = 0x100;
-}
-
-pub(crate) fn fits(h: Header, side: u8, device: Known) -> bool
-    ensures { λ r. ⌜ r ≡ fits cancelRequest h side device Nothing ⌝ }
-{
-    calls_known(
-        h,
-        side,
-        device,
-        Side::SERVER,
-        CancelRequest::MASK,
-        CancelRequest::FUNCTION,
-    )
 }
 
 pub(crate) fn read(m: &[u8]) -> CancelRequestRead

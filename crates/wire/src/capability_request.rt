@@ -1,16 +1,11 @@
 // RIM_EXCHANGE_CAPABILITY_REQUEST (000 2.2.3.1), kind 1.
 //
 //   12  CapabilityValue  4  1
-use crate::kind::Side;
-use crate::kind::calls;
 use crate::message::Asked;
-use words::header::Header;
 use words::layout::Fault;
 use words::numbers::rest;
 use words::numbers::u32_at;
 ghost use mathlib.Core.Path.{_≡_};
-ghost use Rattle.words.specs.declared.ids.Known.the-variants.{Nothing};
-ghost use Rattle.wire.specs.Kinds.{fits, capabilityRequest};
 ghost use Rattle.wire.specs.Message.{capabilityRequestAsked};
 ghost use Rattle.wire.specs.CapabilityRequest.{capabilityRequestOf, capabilityRequestAllowed};
 
@@ -29,19 +24,6 @@ impl CapabilityRequest {
     pub const INTERFACE: u32 = 0;
 
     pub const FUNCTION: u32 = 0x100;
-}
-
-pub(crate) fn fits(h: Header, side: u8) -> bool
-    ensures { λ r. ⌜ r ≡ fits capabilityRequest h side Nothing Nothing ⌝ }
-{
-    calls(
-        h,
-        side,
-        CapabilityRequest::INTERFACE,
-        Side::SERVER,
-        CapabilityRequest::MASK,
-        CapabilityRequest::FUNCTION,
-    )
 }
 
 pub(crate) fn read(m: &[u8]) -> CapabilityRequestRead

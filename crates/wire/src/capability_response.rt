@@ -2,17 +2,12 @@
 //
 //    8  CapabilityValue  4  1
 //   12  Result           4  top bit clear
-use crate::kind::Side;
-use crate::kind::goes_to;
 use crate::message::Asked;
-use words::header::Header;
 use words::hresult::is_success;
 use words::layout::Fault;
 use words::numbers::rest;
 use words::numbers::u32_at;
 ghost use mathlib.Core.Path.{_≡_};
-ghost use Rattle.words.specs.declared.ids.Known.the-variants.{Nothing};
-ghost use Rattle.wire.specs.Kinds.{fits, capabilityResponse};
 ghost use Rattle.wire.specs.Message.{capabilityResponseAsked};
 ghost use Rattle.wire.specs.CapabilityResponse.{capabilityResponseOf, capabilityResponseAllowed};
 
@@ -30,18 +25,6 @@ impl CapabilityResponse {
     pub const MASK: u32 = 0;
 
     pub const INTERFACE: u32 = 0;
-}
-
-pub(crate) fn fits(h: Header, side: u8) -> bool
-    ensures { λ r. ⌜ r ≡ fits capabilityResponse h side Nothing Nothing ⌝ }
-{
-    goes_to(
-        h,
-        side,
-        CapabilityResponse::INTERFACE,
-        Side::CLIENT,
-        CapabilityResponse::MASK,
-    )
 }
 
 pub(crate) fn read(m: &[u8]) -> CapabilityResponseRead

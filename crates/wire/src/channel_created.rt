@@ -3,16 +3,11 @@
 //   12  MajorVersion  4  1
 //   16  MinorVersion  4  0
 //   20  Capabilities  4  0
-use crate::kind::Side;
-use crate::kind::calls;
 use crate::message::Asked;
-use words::header::Header;
 use words::layout::Fault;
 use words::numbers::rest;
 use words::numbers::u32_at;
 ghost use mathlib.Core.Path.{_≡_};
-ghost use Rattle.words.specs.declared.ids.Known.the-variants.{Nothing};
-ghost use Rattle.wire.specs.Kinds.{fits, channelCreatedByServer, channelCreatedByClient};
 ghost use Rattle.wire.specs.Message.{channelCreatedAsked};
 ghost use Rattle.wire.specs.ChannelCreated.{channelCreatedOf, channelCreatedAllowed};
 
@@ -35,32 +30,6 @@ impl ChannelCreated {
     pub const INTERFACE_BY_CLIENT: u32 = 2;
 
     pub const FUNCTION: u32 = 0x100;
-}
-
-pub(crate) fn fits_by_server(h: Header, side: u8) -> bool
-    ensures { λ r. ⌜ r ≡ fits channelCreatedByServer h side Nothing Nothing ⌝ }
-{
-    calls(
-        h,
-        side,
-        ChannelCreated::INTERFACE_BY_SERVER,
-        Side::SERVER,
-        ChannelCreated::MASK,
-        ChannelCreated::FUNCTION,
-    )
-}
-
-pub(crate) fn fits_by_client(h: Header, side: u8) -> bool
-    ensures { λ r. ⌜ r ≡ fits channelCreatedByClient h side Nothing Nothing ⌝ }
-{
-    calls(
-        h,
-        side,
-        ChannelCreated::INTERFACE_BY_CLIENT,
-        Side::CLIENT,
-        ChannelCreated::MASK,
-        ChannelCreated::FUNCTION,
-    )
 }
 
 pub(crate) fn read(m: &[u8]) -> ChannelCreatedRead

@@ -1,13 +1,7 @@
 // INTERNAL_IO_CONTROL (000 2.2.6.4), kind 9: the layout of IO_CONTROL under a function number of its own.
 use crate::io_control;
-use crate::kind::Side;
-use crate::kind::calls_known;
 use crate::message::Asked;
-use words::header::Header;
-use words::ids::Known;
 ghost use mathlib.Core.Path.{_≡_};
-ghost use Rattle.words.specs.declared.ids.Known.the-variants.{Nothing};
-ghost use Rattle.wire.specs.Kinds.{fits, internalIoControl};
 ghost use Rattle.wire.specs.Message.{ioControlAsked};
 ghost use Rattle.wire.specs.IoControl.{ioControlOf};
 
@@ -17,19 +11,6 @@ impl InternalIoControl {
     pub const MASK: u32 = 1;
 
     pub const FUNCTION: u32 = 0x103;
-}
-
-pub(crate) fn fits(h: Header, side: u8, device: Known) -> bool
-    ensures { λ r. ⌜ r ≡ fits internalIoControl h side device Nothing ⌝ }
-{
-    calls_known(
-        h,
-        side,
-        device,
-        Side::SERVER,
-        InternalIoControl::MASK,
-        InternalIoControl::FUNCTION,
-    )
 }
 
 pub(crate) fn ask(m: &[u8]) -> Asked

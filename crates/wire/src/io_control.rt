@@ -5,20 +5,14 @@
 //   20  InputBuffer       InputBufferSize
 //    e  OutputBufferSize  4
 //  e+4  RequestId         4
-use crate::kind::Side;
-use crate::kind::calls_known;
 use crate::message::Asked;
 use crate::message::Request;
-use words::header::Header;
-use words::ids::Known;
 use words::ids::RequestId;
 use words::layout::Fault;
 use words::layout::Part;
 use words::numbers::rest;
 use words::numbers::u32_at;
 ghost use mathlib.Core.Path.{_≡_};
-ghost use Rattle.words.specs.declared.ids.Known.the-variants.{Nothing};
-ghost use Rattle.wire.specs.Kinds.{fits, ioControl};
 ghost use Rattle.wire.specs.Message.{ioControlAsked};
 ghost use Rattle.wire.specs.IoControl.{ioControlOf};
 
@@ -38,19 +32,6 @@ impl IoControl {
     pub const MASK: u32 = 1;
 
     pub const FUNCTION: u32 = 0x102;
-}
-
-pub(crate) fn fits(h: Header, side: u8, device: Known) -> bool
-    ensures { λ r. ⌜ r ≡ fits ioControl h side device Nothing ⌝ }
-{
-    calls_known(
-        h,
-        side,
-        device,
-        Side::SERVER,
-        IoControl::MASK,
-        IoControl::FUNCTION,
-    )
 }
 
 pub(crate) fn read(m: &[u8]) -> IoControlRead

@@ -5,20 +5,14 @@
 //   20  Information       4
 //   24  OutputBufferSize  4
 //   28  OutputBuffer      OutputBufferSize
-use crate::kind::Side;
-use crate::kind::calls_known;
 use crate::message::Asked;
 use crate::message::IoCompleted;
-use words::header::Header;
-use words::ids::Known;
 use words::ids::RequestId;
 use words::layout::Fault;
 use words::layout::Part;
 use words::numbers::rest;
 use words::numbers::u32_at;
 ghost use mathlib.Core.Path.{_≡_};
-ghost use Rattle.words.specs.declared.ids.Known.the-variants.{Nothing};
-ghost use Rattle.wire.specs.Kinds.{fits, ioControlCompletion};
 ghost use Rattle.wire.specs.Message.{ioControlCompletionAsked};
 ghost use Rattle.wire.specs.IoControlCompletion.{ioControlCompletionOf};
 
@@ -39,19 +33,6 @@ impl IoControlCompletion {
     pub const MASK: u32 = 1;
 
     pub const FUNCTION: u32 = 0x100;
-}
-
-pub(crate) fn fits(h: Header, side: u8, callback: Known) -> bool
-    ensures { λ r. ⌜ r ≡ fits ioControlCompletion h side Nothing callback ⌝ }
-{
-    calls_known(
-        h,
-        side,
-        callback,
-        Side::CLIENT,
-        IoControlCompletion::MASK,
-        IoControlCompletion::FUNCTION,
-    )
 }
 
 pub(crate) fn read(m: &[u8]) -> IoControlCompletionRead

@@ -8,7 +8,6 @@ pub mod channel_created;
 pub mod internal_io_control;
 pub mod io_control;
 pub mod io_control_completion;
-pub mod kind;
 pub mod message;
 pub mod register_request_callback;
 pub mod retract_device;

@@ -2,18 +2,13 @@
 //
 //   12  NumRequestCompletion  4
 //   16  RequestCompletion     4  only where the count is not 0; its low 30 bits are an interface, 4 or above
-use crate::kind::Side;
-use crate::kind::calls_known;
 use crate::message::Asked;
-use words::header::Header;
 use words::ids::InterfaceId;
 use words::ids::Known;
 use words::layout::Fault;
 use words::numbers::rest;
 use words::numbers::u32_at;
 ghost use mathlib.Core.Path.{_≡_};
-ghost use Rattle.words.specs.declared.ids.Known.the-variants.{Nothing};
-ghost use Rattle.wire.specs.Kinds.{fits, registerRequestCallback};
 ghost use Rattle.wire.specs.Message.{registerRequestCallbackAsked};
 ghost use Rattle.wire.specs.RegisterRequestCallback.{registerRequestCallbackOf, registerRequestCallbackAllowed};
 
@@ -33,19 +28,6 @@ impl RegisterRequestCallback {
     pub const MASK: u32 = 1;
 
     pub const FUNCTION: u32 = 0x101;
-}
-
-pub(crate) fn fits(h: Header, side: u8, device: Known) -> bool
-    ensures { λ r. ⌜ r ≡ fits registerRequestCallback h side device Nothing ⌝ }
-{
-    calls_known(
-        h,
-        side,
-        device,
-        Side::SERVER,
-        RegisterRequestCallback::MASK,
-        RegisterRequestCallback::FUNCTION,
-    )
 }
 
 pub(crate) fn read(m: &[u8]) -> RegisterRequestCallbackRead

@@ -1,17 +1,11 @@
 // RETRACT_DEVICE (000 2.2.6.9), kind 14. Its interface is the device's.
 //
 //   12  Reason  4  1 (000 2.2.8)
-use crate::kind::Side;
-use crate::kind::calls_known;
 use crate::message::Asked;
-use words::header::Header;
-use words::ids::Known;
 use words::layout::Fault;
 use words::numbers::rest;
 use words::numbers::u32_at;
 ghost use mathlib.Core.Path.{_≡_};
-ghost use Rattle.words.specs.declared.ids.Known.the-variants.{Nothing};
-ghost use Rattle.wire.specs.Kinds.{fits, retractDevice};
 ghost use Rattle.wire.specs.Message.{retractDeviceAsked};
 ghost use Rattle.wire.specs.RetractDevice.{retractDeviceOf, retractDeviceAllowed};
 
@@ -28,19 +22,6 @@ impl RetractDevice {
     pub const MASK: u32 = 1;
 
     pub const FUNCTION: u32 = 0x107;
-}
-
-pub(crate) fn fits(h: Header, side: u8, device: Known) -> bool
-    ensures { λ r. ⌜ r ≡ fits retractDevice h side device Nothing ⌝ }
-{
-    calls_known(
-        h,
-        side,
-        device,
-        Side::SERVER,
-        RetractDevice::MASK,
-        RetractDevice::FUNCTION,
-    )
 }
 
 pub(crate) fn read(m: &[u8]) -> RetractDeviceRead

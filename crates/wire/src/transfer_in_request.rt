@@ -3,22 +3,16 @@
 //   12  CbTsUrb           4
 //   16  TsUrb             CbTsUrb
 //    e  OutputBufferSize  4
-use crate::kind::Side;
-use crate::kind::calls_known;
 use crate::message::Asked;
 use crate::message::Request;
 use crate::transfer;
 use crate::transfer::TransferRead;
 use urb::ts_urb;
 use urb::ts_urb::TsUrb;
-use words::header::Header;
-use words::ids::Known;
 use words::layout::Fault;
 use words::layout::Part;
 use words::numbers::rest;
 ghost use mathlib.Core.Path.{_≡_};
-ghost use Rattle.words.specs.declared.ids.Known.the-variants.{Nothing};
-ghost use Rattle.wire.specs.Kinds.{fits, transferInRequest};
 ghost use Rattle.wire.specs.Message.{transferInRequestAsked};
 ghost use Rattle.wire.specs.TransferInRequest.{transferInRequestOf, transferInRequestAllowed};
 
@@ -36,19 +30,6 @@ impl TransferInRequest {
     pub const MASK: u32 = 1;
 
     pub const FUNCTION: u32 = 0x105;
-}
-
-pub(crate) fn fits(h: Header, side: u8, device: Known) -> bool
-    ensures { λ r. ⌜ r ≡ fits transferInRequest h side device Nothing ⌝ }
-{
-    calls_known(
-        h,
-        side,
-        device,
-        Side::SERVER,
-        TransferInRequest::MASK,
-        TransferInRequest::FUNCTION,
-    )
 }
 
 pub(crate) fn read(m: &[u8]) -> TransferInRequestRead

@@ -4,8 +4,6 @@
 //   16  TsUrb             CbTsUrb
 //    e  OutputBufferSize  4
 //  e+4  OutputBuffer      OutputBufferSize
-use crate::kind::Side;
-use crate::kind::calls_known;
 use crate::message::Asked;
 use crate::message::Request;
 use crate::transfer;
@@ -13,14 +11,10 @@ use crate::transfer::Transfer;
 use crate::transfer::TransferRead;
 use urb::ts_urb;
 use urb::ts_urb::TsUrb;
-use words::header::Header;
-use words::ids::Known;
 use words::layout::Fault;
 use words::layout::Part;
 use words::numbers::rest;
 ghost use mathlib.Core.Path.{_≡_};
-ghost use Rattle.words.specs.declared.ids.Known.the-variants.{Nothing};
-ghost use Rattle.wire.specs.Kinds.{fits, transferOutRequest};
 ghost use Rattle.wire.specs.Message.{transferOutRequestAsked};
 ghost use Rattle.wire.specs.TransferOutRequest.{transferOutRequestOf, outgoingOf, transferOutRequestAllowed};
 
@@ -39,19 +33,6 @@ impl TransferOutRequest {
     pub const MASK: u32 = 1;
 
     pub const FUNCTION: u32 = 0x106;
-}
-
-pub(crate) fn fits(h: Header, side: u8, device: Known) -> bool
-    ensures { λ r. ⌜ r ≡ fits transferOutRequest h side device Nothing ⌝ }
-{
-    calls_known(
-        h,
-        side,
-        device,
-        Side::SERVER,
-        TransferOutRequest::MASK,
-        TransferOutRequest::FUNCTION,
-    )
 }
 
 pub(crate) fn read(m: &[u8]) -> TransferOutRequestRead

@@ -2,23 +2,17 @@
 //
 //   12  what ts_urb_result.rt reads
 //  e+8  OutputBuffer  OutputBufferSize, at least 1
-use crate::kind::Side;
-use crate::kind::calls_known;
 use crate::message::Asked;
 use crate::message::UrbCompleted;
 use crate::ts_urb_result;
 use crate::ts_urb_result::Completion;
 use crate::ts_urb_result::CompletionRead;
 use crate::ts_urb_result::TsUrbResult;
-use words::header::Header;
-use words::ids::Known;
 use words::ids::RequestId;
 use words::layout::Fault;
 use words::layout::Part;
 use words::numbers::rest;
 ghost use mathlib.Core.Path.{_≡_};
-ghost use Rattle.words.specs.declared.ids.Known.the-variants.{Nothing};
-ghost use Rattle.wire.specs.Kinds.{fits, urbCompletion};
 ghost use Rattle.wire.specs.Message.{urbCompletionAsked};
 ghost use Rattle.wire.specs.UrbCompletion.{urbCompletionOf, withOutputOf, urbCompletionAllowed};
 
@@ -39,19 +33,6 @@ impl UrbCompletion {
     pub const MASK: u32 = 1;
 
     pub const FUNCTION: u32 = 0x101;
-}
-
-pub(crate) fn fits(h: Header, side: u8, callback: Known) -> bool
-    ensures { λ r. ⌜ r ≡ fits urbCompletion h side Nothing callback ⌝ }
-{
-    calls_known(
-        h,
-        side,
-        callback,
-        Side::CLIENT,
-        UrbCompletion::MASK,
-        UrbCompletion::FUNCTION,
-    )
 }
 
 pub(crate) fn read(m: &[u8]) -> UrbCompletionRead

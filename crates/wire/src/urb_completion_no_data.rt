@@ -1,22 +1,16 @@
 // URB_COMPLETION_NO_DATA (000 2.2.7.3), kind 17. Its interface is the callback's.
 //
 //   12  what ts_urb_result.rt reads, and nothing behind its OutputBufferSize
-use crate::kind::Side;
-use crate::kind::calls_known;
 use crate::message::Asked;
 use crate::message::UrbCompleted;
 use crate::ts_urb_result;
 use crate::ts_urb_result::CompletionRead;
 use crate::ts_urb_result::TsUrbResult;
-use words::header::Header;
-use words::ids::Known;
 use words::ids::RequestId;
 use words::layout::Fault;
 use words::layout::Part;
 use words::numbers::rest;
 ghost use mathlib.Core.Path.{_≡_};
-ghost use Rattle.words.specs.declared.ids.Known.the-variants.{Nothing};
-ghost use Rattle.wire.specs.Kinds.{fits, urbCompletionNoData};
 ghost use Rattle.wire.specs.Message.{urbCompletionNoDataAsked};
 ghost use Rattle.wire.specs.UrbCompletionNoData.{urbCompletionNoDataOf};
 
@@ -36,19 +30,6 @@ impl UrbCompletionNoData {
     pub const MASK: u32 = 1;
 
     pub const FUNCTION: u32 = 0x102;
-}
-
-pub(crate) fn fits(h: Header, side: u8, callback: Known) -> bool
-    ensures { λ r. ⌜ r ≡ fits urbCompletionNoData h side Nothing callback ⌝ }
-{
-    calls_known(
-        h,
-        side,
-        callback,
-        Side::CLIENT,
-        UrbCompletionNoData::MASK,
-        UrbCompletionNoData::FUNCTION,
-    )
 }
 
 pub(crate) fn read(m: &[u8]) -> UrbCompletionNoDataRead

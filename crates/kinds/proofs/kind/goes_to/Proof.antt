@@ -1,8 +1,8 @@
--- `wire::kind::goes_to` meets its contract: the three tests are those of `goesTo`.
+-- `kinds::kind::goes_to` meets its contract: the three tests are those of `goesTo`.
 use borrow.Author.Needs.{needs}
 use Rattle.words.proofs.Tests.{tests}
-use Rattle.wire.proofs.kind.goes_to.Statement.{statement}
-use Rattle.wire.proofs.kind.goes_to.Tie as tie
+use Rattle.kinds.proofs.kind.goes_to.Statement.{statement}
+use Rattle.kinds.proofs.kind.goes_to.Tie as tie
 
 pub goes-to-spec : {M : Type 1} → statement M
 goes-to-spec =

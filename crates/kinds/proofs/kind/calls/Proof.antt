@@ -1,8 +1,8 @@
--- `wire::kind::calls` meets its contract: the message goes there, and the function is the one called.
+-- `kinds::kind::calls` meets its contract: the message goes there, and the function is the one called.
 use borrow.Author.Needs.{needs}
 use borrow.Author.Tests.{not-false, not-true}
-use Rattle.wire.proofs.kind.calls.Statement.{statement}
-use Rattle.wire.proofs.kind.calls.Tie as tie
+use Rattle.kinds.proofs.kind.calls.Statement.{statement}
+use Rattle.kinds.proofs.kind.calls.Tie as tie
 
 pub calls-spec : {M : Type 1} → statement M
 calls-spec =

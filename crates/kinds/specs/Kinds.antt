@@ -8,8 +8,8 @@ use Rattle.words.specs.declared.ids.Known.{Known}
 use Rattle.words.specs.declared.ids.Known.the-variants as known
 use Rattle.words.specs.declared.kind.Kind.{Kind}
 use Rattle.words.specs.declared.kind.Kind.the-variants.{CapabilityRequest, CapabilityResponse, ChannelCreatedByServer, ChannelCreatedByClient, AddVirtualChannel, AddDevice, CancelRequest, RegisterRequestCallback, IoControl, InternalIoControl, TransferInRequest, TransferOutRequest, RetractDevice, IoControlCompletion, UrbCompletion, UrbCompletionNoData}
-use Rattle.wire.specs.declared.kind.KindFound.{KindFound}
-use Rattle.wire.specs.declared.kind.KindFound.the-variants.{Nothing, Is}
+use Rattle.kinds.specs.declared.kind.KindFound.{KindFound}
+use Rattle.kinds.specs.declared.kind.KindFound.the-variants.{Nothing, Is}
 
 -- a message of a side goes to an interface, by the side and with the mask of a kind
 abbrev pub goesTo : Header → ℕ → ℕ → ℕ → ℕ → Bool
@@ -106,11 +106,20 @@ urbCompletionNoData = record { kind = UrbCompletionNoData; by = client; mask = 1
 abbrev pub completionKinds : List Row
 completionKinds = ioControlCompletion ∷ urbCompletion ∷ urbCompletionNoData ∷ []
 
+abbrev pub transferKinds : List Row
+transferKinds = transferInRequest ∷ transferOutRequest ∷ retractDevice ∷ completionKinds
+
+abbrev pub ioKinds : List Row
+ioKinds = ioControl ∷ internalIoControl ∷ transferKinds
+
 abbrev pub deviceKinds : List Row
-deviceKinds = cancelRequest ∷ registerRequestCallback ∷ ioControl ∷ internalIoControl ∷ transferInRequest ∷ transferOutRequest ∷ retractDevice ∷ completionKinds
+deviceKinds = cancelRequest ∷ registerRequestCallback ∷ ioKinds
+
+abbrev pub clientKinds : List Row
+clientKinds = channelCreatedByClient ∷ addVirtualChannel ∷ addDevice ∷ deviceKinds
 
 abbrev pub kinds : List Row
-kinds = capabilityRequest ∷ capabilityResponse ∷ channelCreatedByServer ∷ channelCreatedByClient ∷ addVirtualChannel ∷ addDevice ∷ deviceKinds
+kinds = capabilityRequest ∷ capabilityResponse ∷ channelCreatedByServer ∷ clientKinds
 
 abbrev pub firstFitting : List Row → Header → ℕ → Known → Known → KindFound
 firstFitting [] h side d c = Nothing
