@@ -1,0 +1,97 @@
+// A session in which one channel's rows fill up: 16 requests are open, a seventeenth is refused with 10, and after request 3 completes the next one
+// takes row 3 (01 "Shown of the rules themselves").
+//
+// A line a call: its answer, and then the 16 rows, each by the RequestId that it holds, or by a dash where it is free.
+use answers::answer;
+use channel::channel::Channel;
+use channel::row::Open;
+use channel::row::Row;
+use channel::row::Sort;
+use table::table::Table;
+
+mod messages;
+
+const SERVER: u8 = 1;
+
+const CLIENT: u8 = 2;
+
+fn main() {
+    let new = table::table::open(1);
+    let ready = session(new);
+    let full = fill(ready);
+    let refused = request(full, 16);
+    let done = complete(refused, 3);
+    request(done, 16);
+}
+
+// From phase 0 to a device with a callback.
+fn session(t: Table) -> Table {
+    let capabilities = call(t, SERVER, &messages::CAPABILITY_REQUEST);
+    let answered = call(capabilities, CLIENT, &messages::CAPABILITY_RESPONSE);
+    let created = call(answered, SERVER, &messages::CHANNEL_CREATED_BY_SERVER);
+    let both = call(created, CLIENT, &messages::CHANNEL_CREATED_BY_CLIENT);
+    let added = call(both, CLIENT, &messages::ADD_DEVICE);
+    call(added, SERVER, &messages::REGISTER_REQUEST_CALLBACK)
+}
+
+// Requests 0 to 15.
+fn fill(t: Table) -> Table {
+    let mut now = t;
+    let mut id: u8 = 0;
+    while id < 16 {
+        now = request(now, id);
+        id += 1;
+    }
+    now
+}
+
+fn request(t: Table, id: u8) -> Table {
+    let mut m = messages::IO_CONTROL;
+    m[24] = id;
+    call(t, SERVER, &m)
+}
+
+fn complete(t: Table, id: u8) -> Table {
+    let mut m = messages::IO_CONTROL_COMPLETION;
+    m[12] = id;
+    call(t, CLIENT, &m)
+}
+
+// Judges a message on channel 0, and says what came of it.
+fn call(t: Table, side: u8, m: &[u8]) -> Table {
+    let j = table::table::judge(t, 0, side, 0, m);
+    let a = j.answer;
+    let after = j.table;
+    io::print_decimal(1, answer::number(a) as u64);
+    let c = after.channels[0];
+    rows(c);
+    io::write_all(1, b"\n");
+    after
+}
+
+fn rows(c: Channel) {
+    let mut i: usize = 0;
+    while i < 16 {
+        let r = c.rows[i];
+        io::write_all(1, b" ");
+        row(r);
+        i += 1;
+    }
+}
+
+fn row(r: Row) {
+    let sort = r.sort;
+    match sort {
+        Sort::Free => {
+            io::write_all(1, b"-");
+        }
+        Sort::Io(o) => id(o),
+        Sort::In(o) => id(o),
+        Sort::Out(o) => id(o),
+    }
+}
+
+fn id(o: Open) {
+    let request = o.request;
+    io::print_decimal(1, request.number() as u64);
+}
