@@ -8,73 +8,34 @@ pub struct Phases {
     pub after: u8,
 }
 
+fn from_to(before: u8, after: u8) -> Phases
+    ensures { λ r. ⌜ r ≡ record { before = before; after = after } ⌝ }
+{
+    Phases {
+        before: before,
+        after: after,
+    }
+}
+
 pub fn of(kind: Kind) -> Phases
     ensures { λ r. ⌜ r ≡ phasesOf kind ⌝ }
 {
     match kind {
-        Kind::CapabilityRequest => Phases {
-            before: 0,
-            after: 1,
-        },
-        Kind::CapabilityResponse => Phases {
-            before: 1,
-            after: 2,
-        },
-        Kind::ChannelCreatedByServer => Phases {
-            before: 2,
-            after: 3,
-        },
-        Kind::ChannelCreatedByClient => Phases {
-            before: 3,
-            after: 4,
-        },
-        Kind::AddVirtualChannel => Phases {
-            before: 4,
-            after: 4,
-        },
-        Kind::AddDevice => Phases {
-            before: 4,
-            after: 5,
-        },
-        Kind::CancelRequest => Phases {
-            before: 5,
-            after: 5,
-        },
-        Kind::RegisterRequestCallback => Phases {
-            before: 5,
-            after: 5,
-        },
-        Kind::IoControl => Phases {
-            before: 5,
-            after: 5,
-        },
-        Kind::InternalIoControl => Phases {
-            before: 5,
-            after: 5,
-        },
-        Kind::TransferInRequest => Phases {
-            before: 5,
-            after: 5,
-        },
-        Kind::TransferOutRequest => Phases {
-            before: 5,
-            after: 5,
-        },
-        Kind::RetractDevice => Phases {
-            before: 5,
-            after: 6,
-        },
-        Kind::IoControlCompletion => Phases {
-            before: 5,
-            after: 5,
-        },
-        Kind::UrbCompletion => Phases {
-            before: 5,
-            after: 5,
-        },
-        Kind::UrbCompletionNoData => Phases {
-            before: 5,
-            after: 5,
-        },
+        Kind::CapabilityRequest => from_to(0, 1),
+        Kind::CapabilityResponse => from_to(1, 2),
+        Kind::ChannelCreatedByServer => from_to(2, 3),
+        Kind::ChannelCreatedByClient => from_to(3, 4),
+        Kind::AddVirtualChannel => from_to(4, 4),
+        Kind::AddDevice => from_to(4, 5),
+        Kind::CancelRequest => from_to(5, 5),
+        Kind::RegisterRequestCallback => from_to(5, 5),
+        Kind::IoControl => from_to(5, 5),
+        Kind::InternalIoControl => from_to(5, 5),
+        Kind::TransferInRequest => from_to(5, 5),
+        Kind::TransferOutRequest => from_to(5, 5),
+        Kind::RetractDevice => from_to(5, 6),
+        Kind::IoControlCompletion => from_to(5, 5),
+        Kind::UrbCompletion => from_to(5, 5),
+        Kind::UrbCompletionNoData => from_to(5, 5),
     }
 }

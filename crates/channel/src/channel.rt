@@ -79,10 +79,10 @@ pub fn under(c: Channel, id: RequestId) -> Held
 {
     match find(c, id) {
         Found::Nothing => Held::Nothing,
-        Found::At(at) => {
-            if at < 16 {
-                let row = c.rows[at];
-                as_held(at, row)
+        Found::At(i) => {
+            if i < 16 {
+                let row = c.rows[i];
+                as_held(i, row)
             } else {
                 Held::Nothing // no row stands there
             }

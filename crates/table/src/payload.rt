@@ -15,10 +15,7 @@ fn shown(table: Table, channel: u8, side: u8, m: &[u8]) -> Part
     if table::used_up(table.next) {
         return nothing;
     }
-    if 7 < channel {
-        return nothing;
-    }
-    if !table::of_side(side) {
+    if table::no_place(channel, side) {
         return nothing;
     }
     let c = table.channels[channel as usize];

@@ -9,7 +9,7 @@ use Rattle.channel.proofs.Steps.{length-of}
 use Rattle.channel.proofs.channel.under.Statement.{statement}
 use Rattle.channel.proofs.channel.under.Tie as tie
 
-past : (c : tie.Else1) → length (c .before .before .before .before .before .args .t1 .rows) ≤ c .before .before .at .given .0 .0
+past : (c : tie.Else1) → length (c .before .before .before .before .before .args .t1 .rows) ≤ c .before .before .i .given .0 .0
 past c = let l : length (c .before .before .before .before .before .args .t1 .rows) ≡ 16 = search length-of in omega arith
 
 pub under-spec : {M : Type 1} → statement M
@@ -24,5 +24,5 @@ under-spec =
     (search needs)
     (search needs)
     (λ c. rw (← (c .before .before .find .ensures), c .enum-told .given .1))
-    (λ c. rw (← (c .before .before .before .before .before .before .find .ensures), c .before .before .before .before .at .given .1) (c .as-held .ensures))
-    (λ c. rw (← (c .before .before .before .before .find .ensures), c .before .before .at .given .1, List·getD-eq-default (c .before .before .before .before .before .args .t1 .rows) freeRow (past c))))
+    (λ c. rw (← (c .before .before .before .before .before .before .find .ensures), c .before .before .before .before .i .given .1) (c .as-held .ensures))
+    (λ c. rw (← (c .before .before .before .before .find .ensures), c .before .before .i .given .1, List·getD-eq-default (c .before .before .before .before .before .args .t1 .rows) freeRow (past c))))
