@@ -1,6 +1,7 @@
 -- `rules::completion::io_close` meets its contract.
 use borrow.Author.Needs.{needs}
-use borrow.Author.Tests.{le-ltb, lt-ltb, not-false, not-true}
+use borrow.Author.Tests.{le-ltb, not-false, not-true}
+use Rattle.words.proofs.Tests.{tests}
 use Rattle.rules.proofs.completion.io_close.Statement.{statement}
 use Rattle.rules.proofs.completion.io_close.Tie as tie
 
@@ -9,7 +10,7 @@ io-close-spec =
     tie.close
     (tie.spec
     (search needs)
-    (λ c. rw (lt-ltb _ _ (c .before .if1 .taken)) (c .refuse .ensures))
+    (λ c. search (tests, c .refuse .ensures))
     (search needs)
     (search needs)
     (λ c. rw (le-ltb _ _ (c .before .before .before .if1 .left), ← (c .before .before .agree .ensures), not-true (c .before .before .agree .result) (c .before .if2 .taken)) (c .refuse2 .ensures))

@@ -1,7 +1,8 @@
 -- `turn::admit::with_header` meets its contract.
 use Rattle.turn.specs.Admit.{fromHeader}
 use borrow.Author.Needs.{needs}
-use borrow.Author.Tests.{le-ltb, lt-ltb}
+use borrow.Author.Tests.{le-ltb}
+use Rattle.words.proofs.Tests.{tests}
 use Rattle.turn.proofs.admit.with_header.Statement.{statement}
 use Rattle.turn.proofs.admit.with_header.Tie as tie
 
@@ -10,7 +11,7 @@ unfolding fromHeader
 with-header-spec =
     tie.close
     (tie.spec
-    (λ c. rw (lt-ltb _ _ (c .if1 .taken)))
+    (λ c. search tests)
     (search needs)
     (search needs)
     (search needs)

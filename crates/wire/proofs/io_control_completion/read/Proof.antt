@@ -30,4 +30,4 @@ read-spec =
     (search needs)
     (search needs)
     (search needs)
-    (λ c. rw (← (c .before .before .before .before .before .before .before .before .before .before .before .before .before .before .before .rest .ensures), le-ltb _ _ (c .before .before .before .before .before .before .before .before .before .before .before .before .before .before .if1 .left), ← (c .before .before .before .before .before .before .before .before .before .before .before .before .before .rest2 .ensures), le-ltb _ _ (c .before .before .before .before .before .before .before .before .before .before .before .before .if2 .left), ← (c .before .before .before .before .before .before .before .before .before .before .before .rest3 .ensures), le-ltb _ _ (c .before .before .before .before .before .before .before .before .before .before .if3 .left), ← (c .before .before .before .before .before .before .before .before .before .rest4 .ensures), le-ltb _ _ (c .before .before .before .before .before .before .before .before .if4 .left), ← (c .before .before .before .before .before .before .before .u32-at .ensures), ← (c .before .before .before .before .before .before .rest5 .ensures), le-ltb _ _ (c .before .before .before .before .before .if5 .left), ← (c .before .before .before .before .rest6 .ensures), le-ltb _ _ (c .before .before .before .if6 .left), ← (c .before .before .read .ensures), ← (c .before .u32-at2 .ensures), ← (c .u32-at3 .ensures))))
+    (λ c. rw (← (c .before .before .before .before .before .before .before .before .before .before .before .before .before .before .before .rest .ensures), le-ltb _ _ (c .before .before .before .before .before .before .before .before .before .before .before .before .before .before .if1 .left), ← (c .before .before .before .before .before .before .before .before .before .before .before .before .before .rest2 .ensures), le-ltb _ _ (c .before .before .before .before .before .before .before .before .before .before .before .before .if2 .left), ← (c .before .before .before .before .before .before .before .before .before .before .before .rest3 .ensures), le-ltb _ _ (c .before .before .before .before .before .before .before .before .before .before .if3 .left), ← (c .before .before .before .before .before .before .before .before .before .rest4 .ensures), le-ltb _ _ (c .before .before .before .before .before .before .before .before .if4 .left), ← (c .before .before .before .before .before .before .before .u32-at .ensures), ← (c .before .before .before .before .before .before .rest5 .ensures), le-ltb _ _ (c .before .before .before .before .before .if5 .left), ← (c .before .before .before .before .rest6 .ensures), le-ltb _ _ (c .before .before .before .if6 .left), c .before .before .read .ensures, c .before .u32-at2 .ensures, c .u32-at3 .ensures)))
