@@ -2,6 +2,7 @@
 use Rattle.table.specs.Payload.{cutOf}
 use native.Mathlib.Nat.{add-sub-cancel-left}
 use borrow.Author.Needs.{needs}
+use Rattle.words.proofs.Tests.{tests}
 use borrow.Author.Tests.{le-ltb, lt-ltb}
 use Rattle.table.proofs.payload.cut.Statement.{statement}
 use Rattle.table.proofs.payload.cut.Tie as tie
@@ -19,7 +20,7 @@ cut-spec =
     (search needs)
     (search needs)
     (search needs)
-    (λ c. rw (le-ltb _ _ (c .before .before .before .before .if1 .left), lt-ltb _ _ (c .before .if2 .taken)))
+    (λ c. search tests)
     (search needs)
     (search needs)
     (search needs)
