@@ -1,1 +1,3 @@
+pub mod Determined
+pub mod Runs
 pub mod Written

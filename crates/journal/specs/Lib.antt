@@ -1,2 +1,4 @@
+pub mod Calls
+pub mod Journal
 pub mod Line
 pub mod Record

@@ -15,7 +15,7 @@ use Rattle.turn.specs.Step.{afterOf, verdictOf}
 use Rattle.table.specs.Entry.{acceptedEntry, answerOf, closeEntry, judgedEntry, refusedEntry}
 use Rattle.table.specs.Table.{blankChannel, channelOf, closeOf, judgedBy, judgeOf, moved, noPlace, unnumbered, unplaced, usedUp}
 use Rattle.table.specs.declared.table.Table.{Table}
-use Rattle.promises.specs.Calls.{Asks, Call, called, calledBy, closing, judging, sideBy, stampBy}
+use Rattle.journal.specs.Calls.{Asks, Call, called, calledBy, closing, judging, sideBy, stampBy}
 use Rattle.promises.specs.Demand1.{Demand1, Entered}
 use Rattle.promises.proofs.Verdicts.{Proper, proper}
 

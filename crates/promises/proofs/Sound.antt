@@ -53,7 +53,7 @@ use Rattle.turn.specs.declared.admit.Admitted.the-variants as admit
 use Rattle.table.specs.Table.{blankChannel, channelOf, closeOf, judgeOf, noPlace, openOf, usedUp}
 use Rattle.table.specs.declared.table.Judged.{Judged}
 use Rattle.table.specs.declared.table.Table.{Table}
-use Rattle.promises.specs.Calls.{after, Asks, Call, called, calledBy, closing, judging}
+use Rattle.journal.specs.Calls.{after, Asks, Call, called, calledBy, closing, judging}
 use Rattle.promises.specs.Sound.{Numbered, rowOf, Sound, SoundChannel}
 
 -- What an act asks of the channel that it is done to, so that it stays sound: n is the call's number.

@@ -10,7 +10,7 @@ use Rattle.table.specs.Entry.{judgedEntry}
 use Rattle.table.specs.Table.{channelOf, closeOf, judgedBy, judgeOf, noPlace, unnumbered, unplaced, usedUp}
 use Rattle.table.specs.declared.table.Judged.{Judged}
 use Rattle.table.specs.declared.table.Table.{Table}
-use Rattle.promises.specs.Calls.{Asks, Call, called, calledBy, closing, judging}
+use Rattle.journal.specs.Calls.{Asks, Call, called, calledBy, closing, judging}
 use Rattle.promises.specs.Stamp.{asksAt, callAt, judgedAt}
 
 -- a test that no stamp is part of

@@ -16,7 +16,7 @@ use Rattle.table.specs.declared.entry.Noted.{Noted}
 use Rattle.table.specs.declared.entry.Noted.the-variants.{Nothing, Is}
 use Rattle.table.specs.declared.table.Judged.{Judged}
 use Rattle.table.specs.declared.table.Table.{Table}
-use Rattle.promises.specs.Calls.{after, Asks, Call, called, closing, judging}
+use Rattle.journal.specs.Calls.{after, Asks, Call, called, closing, judging}
 
 -- what is shown of a call: its answer's number, its entry, its payload, and the rows of channel 0 afterwards
 pub record Shown : Type 0 where

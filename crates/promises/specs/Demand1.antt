@@ -9,7 +9,7 @@ use Rattle.table.specs.declared.entry.Entry.{Entry}
 use Rattle.table.specs.declared.entry.Noted.the-variants.{Nothing, Is}
 use Rattle.table.specs.declared.table.Judged.{Judged}
 use Rattle.table.specs.declared.table.Table.{Table}
-use Rattle.promises.specs.Calls.{Call, sideBy, stampBy}
+use Rattle.journal.specs.Calls.{Call, sideBy, stampBy}
 
 -- the entry of a call that was answered otherwise than by 1
 pub record Entered (t : Table) (x : Call) (j : Judged) : Type 0 where

@@ -1,4 +1,3 @@
-pub mod Calls
 pub mod Demand1
 pub mod Stamp
 pub mod Sound

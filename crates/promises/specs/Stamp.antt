@@ -4,7 +4,7 @@ use Rattle.table.specs.declared.entry.Entry.{Entry}
 use Rattle.table.specs.declared.entry.Noted.{Noted}
 use Rattle.table.specs.declared.entry.Noted.the-variants.{Nothing, Is}
 use Rattle.table.specs.declared.table.Judged.{Judged}
-use Rattle.promises.specs.Calls.{Asks, Call, judging, closing}
+use Rattle.journal.specs.Calls.{Asks, Call, judging, closing}
 
 -- the same call with another stamp
 abbrev pub asksAt : ℕ → Asks → Asks
