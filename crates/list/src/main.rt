@@ -1,0 +1,7 @@
+// The listing program (01 "Listing").
+use listing::capture;
+use listing::capture::What;
+
+fn main() {
+    capture::run(What::Entries);
+}
