@@ -1,0 +1,25 @@
+//! A second, independent reading of document 01, made to be run beside the
+//! first one on the same captures.
+//!
+//! The modules follow the headings of 01: `wire` reads numbers, `kinds` is the
+//! table of "Header and kinds", `body` and `urb` are "Bodies after the 12
+//! bytes", `table` holds channels, rows and the order of the answers, `journal`
+//! and `capture` are "Journal" and "Listing". `maker` writes captures out of
+//! `proper` (messages as 01 wants them), `aims` (messages wrong in one chosen
+//! way) and `damage` (blind damage), all on top of `compose`; `tally` counts
+//! what a capture reaches.
+
+pub mod aims;
+pub mod body;
+pub mod capture;
+pub mod compose;
+pub mod damage;
+pub mod journal;
+pub mod kinds;
+pub mod maker;
+pub mod proper;
+pub mod rng;
+pub mod table;
+pub mod tally;
+pub mod urb;
+pub mod wire;
