@@ -3,3 +3,7 @@ pub mod Demand1
 pub mod Stamp
 pub mod Sound
 pub mod Cases
+pub mod GateLaw
+pub mod Gate
+pub mod Runs
+pub mod Demand3

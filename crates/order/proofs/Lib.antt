@@ -1,0 +1,3 @@
+pub mod Renumber
+pub mod Alone
+pub mod Reorder

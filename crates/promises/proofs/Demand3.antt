@@ -1,0 +1,68 @@
+-- Demand 3 of the real calls, by the theory of `order`.
+use Prim.Native.Nat.{ℕ, zero, suc, _+_, _≤_}
+use mathlib.Core.Path.{_≡_, refl, sym, ap, _∙_}
+use mathlib.Core.List.{List, [], _∷_, map}
+use mathlib.Core.Bool.{Bool, true, false}
+use lib.Dec.{eqb}
+use lib.ListN.{length, replicate}
+use Rattle.channel.specs.Rows.{newChannel}
+use Rattle.channel.specs.declared.channel.Channel.{Channel}
+use Rattle.table.specs.Table.{openOf}
+use Rattle.journal.specs.Calls.{after, Call}
+use Rattle.order.specs.Machine.{ends, Given, givenOn, gives, keep, renG}
+use Rattle.order.specs.Reorder.{Reordered, SameUnder}
+use Rattle.order.proofs.Reorder.{reorder}
+use Rattle.promises.specs.Demand3.{Demand3, doneOn, SameCalls}
+use Rattle.promises.specs.Gate.{Gave, inside, outside, Place, renChannel, renPlace}
+use Rattle.promises.specs.Runs.{Done, renDone, run, tagged}
+use Rattle.promises.proofs.Gate.{gate}
+use Rattle.promises.proofs.Runs.{after-is, doneOf, run-is}
+
+-- what is done on a channel is what the machine's run gives there
+on-map : (d : ℕ) (gs : List (Given Gave)) → doneOn d (map doneOf gs) ≡ map doneOf (givenOn d gs)
+on-map d [] = refl
+on-map d (g ∷ gs) = go (eqb (g .chan) d) (on-map d gs)
+  where
+    go : (b : Bool) → doneOn d (map doneOf gs) ≡ map doneOf (givenOn d gs) → keep b (doneOf g) (doneOn d (map doneOf gs)) ≡ map doneOf (keep b g (givenOn d gs))
+    go true e = ap (λ r. doneOf g ∷ r) e
+    go false e = e
+
+ren-map : (f : ℕ → ℕ) (gs : List (Given Gave)) → map doneOf (map (renG gate f) gs) ≡ map (renDone f) (map doneOf gs)
+ren-map f [] = refl
+ren-map f (g ∷ gs) = ap (λ r. renDone f (doneOf g) ∷ r) (ren-map f gs)
+
+-- channels are told by their places
+unplace : Place → Channel
+unplace outside = newChannel
+unplace (inside c) = c
+
+unplaced-same : (l : List Channel) → map unplace (map inside l) ≡ l
+unfolding unplace
+unplaced-same [] = refl
+unplaced-same (c ∷ l) = ap (λ r. c ∷ r) (unplaced-same l)
+
+ren-places : (f : ℕ → ℕ) (l : List Channel) → map (renPlace f) (map inside l) ≡ map inside (map (renChannel f) l)
+ren-places f [] = refl
+ren-places f (c ∷ l) = ap (λ r. inside (renChannel f c) ∷ r) (ren-places f l)
+
+-- For a table opened at k ≥ 1 and n calls with k + n ≤ 4,294,967,295, and any reordering that keeps each channel's calls in their order.
+pub demand-3 : (k : ℕ) (xs ys : List Call) → 1 ≤ k → k + length xs ≤ 4294967295 → k + length ys ≤ 4294967295 → SameCalls xs ys → (f : ℕ → ℕ) × Demand3 k xs ys f
+demand-3 k xs ys h hx hy same =
+    let (f, r) = reorder gate 8 k (map tagged xs) (map tagged ys) h same in (
+      f,
+      record {
+        renumbers = r .renumbers;
+        given = λ d. cc (
+          run-is (openOf k) xs h hx refl,
+          run-is (openOf k) ys h hy refl,
+          on-map d (gives gate k (replicate 8 (inside newChannel)) (map tagged xs)),
+          on-map d (gives gate k (replicate 8 (inside newChannel)) (map tagged ys)),
+          r .given d,
+          ren-map f (givenOn d (gives gate k (replicate 8 (inside newChannel)) (map tagged xs))),
+        );
+        channels =
+            sym (unplaced-same (after (openOf k) ys .channels))
+            ∙ ap (map unplace) (after-is (openOf k) ys h hy refl ∙ r .table ∙ ap (map (renPlace f)) (sym (after-is (openOf k) xs h hx refl)) ∙ ren-places f (after (openOf k) xs .channels))
+            ∙ unplaced-same (map (renChannel f) (after (openOf k) xs .channels));
+      },
+    )
