@@ -55,12 +55,6 @@ impl MessageId {
     {
         MessageId(u32_at(m, at))
     }
-
-    pub fn number(self) -> u32
-        ensures { λ r. ⌜ r ≡ self .0 ⌝ }
-    {
-        self.0 // of 32 bits
-    }
 }
 
 impl RequestId {
