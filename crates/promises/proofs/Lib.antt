@@ -7,3 +7,6 @@ pub mod GateLaw
 pub mod Gate
 pub mod Runs
 pub mod Demand3
+pub mod Kinded
+pub mod Story
+pub mod Names

@@ -5,3 +5,4 @@ pub mod Cases
 pub mod Gate
 pub mod Runs
 pub mod Demand3
+pub mod Names

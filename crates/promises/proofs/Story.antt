@@ -1,0 +1,235 @@
+-- What an accepted message does with rows and numbers: it opens a request under its own number, or closes one and names it, or neither.
+use Prim.Native.Nat.{ℕ, _+_, _≤_}
+use native.Mathlib.Omega.{arith}
+use mathlib.Core.Path.{_≡_, refl, sym, ap, subst, _∙_}
+use mathlib.Core.List.{List}
+use mathlib.Core.Bool.{Bool, true, false, cond, false≢true, _||_}
+use lib.ListN.{getD, length}
+use lib.Dec.{eqb, ltb}
+use borrow.Author.Tests.{eqb-true}
+use Rattle.words.proofs.Steps.{either}
+use Rattle.words.specs.Header.{headerOf}
+use Rattle.words.specs.Kind.{kindNumber}
+use Rattle.words.specs.declared.header.HeaderRead.{HeaderRead}
+use Rattle.words.specs.declared.header.HeaderRead.the-variants as header
+use Rattle.words.specs.declared.ids.Known.{Known}
+use Rattle.words.specs.declared.ids.RequestId.{RequestId}
+use Rattle.words.specs.declared.kind.Kind.{Kind}
+use Rattle.wire.specs.declared.message.Asked.{Asked}
+use Rattle.wire.specs.declared.message.Asked.the-variants as asks
+use Rattle.wire.specs.declared.message.IoCompleted.{IoCompleted}
+use Rattle.wire.specs.declared.message.Request.{Request}
+use Rattle.wire.specs.declared.message.UrbCompleted.{UrbCompleted}
+use Rattle.kinds.specs.Kinds.{firstFitting, kinds}
+use Rattle.kinds.specs.declared.kind.KindFound.{KindFound}
+use Rattle.kinds.specs.declared.kind.KindFound.the-variants as kind
+use Rattle.channel.specs.Rows.{findOf, freeRow, heldAt, heldBy, heldOf, holds, lowestOf}
+use Rattle.channel.specs.declared.channel.Channel.{Channel}
+use Rattle.channel.specs.declared.channel.Found.{Found}
+use Rattle.channel.specs.declared.channel.Found.the-variants as found
+use Rattle.channel.specs.declared.channel.Held.{Held}
+use Rattle.channel.specs.declared.channel.Held.the-variants as held
+use Rattle.channel.specs.declared.row.Open.{Open}
+use Rattle.channel.specs.declared.row.Sort.{Sort}
+use Rattle.channel.specs.declared.row.Sort.the-variants.{Free, Io, In, Out}
+use Rattle.channel.proofs.Laws.{first-there}
+use Rattle.answers.specs.Phase.{phasesOf}
+use Rattle.rules.specs.Request.{opened, taken, transferOutDecided}
+use Rattle.rules.specs.Completion.{cancelled, ioCompleted, noDataCompleted, resultAgrees, urbClosed, urbCompleted}
+use Rattle.rules.specs.Decide.{decided}
+use Rattle.rules.specs.declared.verdict.Act.{Act}
+use Rattle.rules.specs.declared.verdict.Act.the-variants as act
+use Rattle.rules.specs.declared.verdict.Verdict.{Verdict}
+use Rattle.rules.specs.declared.verdict.Verdict.the-variants.{Refused, Accepted}
+use Rattle.turn.specs.Admit.{admitted, asksAs, asksIn, fromHead, fromHeader}
+use Rattle.turn.specs.Step.{verdictBy, verdictOf}
+use Rattle.turn.specs.Store.{hereOf, seenOf}
+use Rattle.turn.specs.declared.admit.Admitted.{Admitted}
+use Rattle.turn.specs.declared.admit.Admitted.the-variants as admit
+use Rattle.promises.specs.Names.{inKind, ioKind, mayClose, outKind}
+use Rattle.promises.specs.Sound.{rowOf}
+use Rattle.promises.proofs.Kinded.{Kinded, kinded, NoCompletion}
+
+-- the kinds of request that a row's sort is for
+abbrev pub kindFor : Sort → ℕ → Bool
+kindFor Free kind = false
+kindFor (Io o) kind = ioKind kind
+kindFor (In o) kind = inKind kind
+kindFor (Out o) kind = outKind kind
+
+-- the open request of a row
+abbrev pub Is : Sort → Open → Type 0
+Is Free o = ⊥
+Is (Io p) o = p ≡ o
+Is (In p) o = p ≡ o
+Is (Out p) o = p ≡ o
+
+-- a row taken: by a request with this number, id and kind
+pub record Opens (n request kind : ℕ) (s : Sort) : Type 0 where
+  pub open′ : Open
+  pub is : Is s open′
+  pub number : open′ .number ≡ n
+  pub id : open′ .request .0 ≡ request
+  pub fits : kindFor s kind ≡ true
+
+-- a row freed: its request has this number and id, and this kind may close any request that such a row is for
+pub record Closes (cause request kind : ℕ) (s : Sort) : Type 0 where
+  pub open′ : Open
+  pub is : Is s open′
+  pub number : open′ .number ≡ cause
+  pub id : open′ .request .0 ≡ request
+  pub may : (k : ℕ) → kindFor s k ≡ true → mayClose kind k ≡ true
+
+abbrev pub Tells : Channel → ℕ → ℕ → ℕ → ℕ → Act → Type 0
+Tells c n kind request cause act.Keep = (cause ≡ 0) × NoCompletion kind
+Tells c n kind request cause (act.Device id ms) = (cause ≡ 0) × NoCompletion kind
+Tells c n kind request cause (act.Callback k) = (cause ≡ 0) × NoCompletion kind
+Tells c n kind request cause (act.Take at row) = (cause ≡ 0) × NoCompletion kind × Opens n request kind (row .sort)
+Tells c n kind request cause (act.Free at) = Closes cause request kind (rowOf c at .sort)
+Tells c n kind request cause act.Empty = (cause ≡ 0) × NoCompletion kind
+
+abbrev pub Story : Channel → ℕ → Verdict → Type 0
+Story c n (Refused k a) = Unit {0}
+Story c n (Accepted a) = Tells c n (a .kind) (a .request) (a .cause) (a .act)
+
+-- ---- what is held under an id stands in its row
+abbrev Stands : Channel → RequestId → Held → Type 0
+Stands c id held.Nothing = Unit {0}
+Stands c id (held.Io at o) = (rowOf c at .sort ≡ Io o) × (o .request .0 ≡ id .0)
+Stands c id (held.In at o) = (rowOf c at .sort ≡ In o) × (o .request .0 ≡ id .0)
+Stands c id (held.Out at o) = (rowOf c at .sort ≡ Out o) × (o .request .0 ≡ id .0)
+
+by-stands : (c : Channel) (id : RequestId) (at : ℕ) (s : Sort) → rowOf c at .sort ≡ s → holds id (record { sort = s }) ≡ true → Stands c id (heldBy at s)
+by-stands c id at Free e h = tt
+by-stands c id at (Io o) e h = (e, eqb-true (o .request .0) (id .0) h)
+by-stands c id at (In o) e h = (e, eqb-true (o .request .0) (id .0) h)
+by-stands c id at (Out o) e h = (e, eqb-true (o .request .0) (id .0) h)
+
+stands : (c : Channel) (id : RequestId) → Stands c id (heldOf c id)
+unfolding heldOf
+stands c id = go (findOf c id) refl
+  where
+    go : (f : Found) → findOf c id ≡ f → Stands c id (heldAt (c .rows) f)
+    go found.Nothing t = tt
+    go (found.At at) t =
+        let (k, h) = first-there (holds id) (c .rows) 0 at t in
+        let q : at ≡ k = omega (arith, h .0) in
+        by-stands c id at (rowOf c at .sort) refl (ap (λ n. holds id (getD (c .rows) n freeRow)) q ∙ h .1)
+
+-- ---- the rules
+low : (n : ℕ) → n ≤ 14 → NoCompletion n
+low n h l u = omega arith
+
+io-low : (n : ℕ) → ioKind n ≡ true → n ≤ 14
+io-low n e = go (eqb n 8) (eqb n 9) (λ h. eqb-true n 8 h) (λ h. eqb-true n 9 h) e
+  where
+    go : (a b : Bool) → (a ≡ true → n ≡ 8) → (b ≡ true → n ≡ 9) → (a || b) ≡ true → n ≤ 14
+    go true b p q h = let z = p refl in omega arith
+    go false true p q h = let z = q refl in omega arith
+    go false false p q h = let z : _≡_ {A = ℕ} 0 1 = cc in absurd (omega arith)
+
+taken-story : (c : Channel) (n : ℕ) (k : Kind) (r : Request) (s : Sort) → kindNumber k ≤ 14 → Opens n (r .request .0) (kindNumber k) s → (here : Held) (w : Found) → Story c n (taken k r s here w)
+unfolding taken
+taken-story c n k r s l o held.Nothing (found.At at) = (refl, low (kindNumber k) l, o)
+taken-story c n k r s l o held.Nothing found.Nothing = tt
+taken-story c n k r s l o (held.Io at p) w = tt
+taken-story c n k r s l o (held.In at p) w = tt
+taken-story c n k r s l o (held.Out at p) w = tt
+
+-- a completion, or a cancel, closes the request of the row that was found
+io-closes : (c : Channel) (at : ℕ) (o : Open) (id : RequestId) (kind : ℕ) → ((k : ℕ) → ioKind k ≡ true → mayClose kind k ≡ true) → (rowOf c at .sort ≡ Io o) × (o .request .0 ≡ id .0)
+    → Closes (o .number) (id .0) kind (rowOf c at .sort)
+io-closes c at o id kind m h = subst (Closes (o .number) (id .0) kind) (sym (h .0)) (record { open′ = o; is = refl; number = refl; id = h .1; may = m })
+
+in-closes : (c : Channel) (at : ℕ) (o : Open) (id : RequestId) (kind : ℕ) → ((k : ℕ) → inKind k ≡ true → mayClose kind k ≡ true) → (rowOf c at .sort ≡ In o) × (o .request .0 ≡ id .0)
+    → Closes (o .number) (id .0) kind (rowOf c at .sort)
+in-closes c at o id kind m h = subst (Closes (o .number) (id .0) kind) (sym (h .0)) (record { open′ = o; is = refl; number = refl; id = h .1; may = m })
+
+out-closes : (c : Channel) (at : ℕ) (o : Open) (id : RequestId) (kind : ℕ) → ((k : ℕ) → outKind k ≡ true → mayClose kind k ≡ true) → (rowOf c at .sort ≡ Out o) × (o .request .0 ≡ id .0)
+    → Closes (o .number) (id .0) kind (rowOf c at .sort)
+out-closes c at o id kind m h = subst (Closes (o .number) (id .0) kind) (sym (h .0)) (record { open′ = o; is = refl; number = refl; id = h .1; may = m })
+
+or-left : (a b : Bool) → a ≡ true → (a || b) ≡ true
+or-left true b e = refl
+or-left false b e = absurd (false≢true e)
+
+or-right : (a b : Bool) → b ≡ true → (a || b) ≡ true
+or-right true b e = refl
+or-right false b e = e
+
+io-story : (c : Channel) (n : ℕ) (k : Kind) (d : IoCompleted) → kindNumber k ≡ 15 → (here : Held) → Stands c (d .request) here → Story c n (ioCompleted k d here)
+io-story c n k d e held.Nothing h = tt
+io-story c n k d e (held.Io at o) h =
+    either (Story c n) (ltb (o .size) (d .size)) _ _ (λ p. tt)
+    (λ p. either (Story c n) (resultAgrees d o) _ _ (λ q. io-closes c at o (d .request) (kindNumber k) (λ j m. rw e m) h) (λ q. tt))
+io-story c n k d e (held.In at o) h = tt
+io-story c n k d e (held.Out at o) h = tt
+
+urb-story : (c : Channel) (n : ℕ) (k : Kind) (d : UrbCompleted) → kindNumber k ≡ 16 → (here : Held) → Stands c (d .request) here → Story c n (urbCompleted k d here)
+urb-story c n k d e held.Nothing h = tt
+urb-story c n k d e (held.Io at o) h = tt
+urb-story c n k d e (held.In at o) h =
+    either (Story c n) (ltb (o .size) (d .size)) _ _ (λ p. tt) (λ p. in-closes c at o (d .request) (kindNumber k) (λ j m. rw e m) h)
+urb-story c n k d e (held.Out at o) h = tt
+
+no-data-story : (c : Channel) (n : ℕ) (k : Kind) (d : UrbCompleted) → kindNumber k ≡ 17 → (here : Held) → Stands c (d .request) here → Story c n (noDataCompleted k d here)
+no-data-story c n k d e held.Nothing h = tt
+no-data-story c n k d e (held.Io at o) h = tt
+no-data-story c n k d e (held.In at o) h =
+    either (Story c n) (ltb 0 (d .size)) _ _ (λ p. tt) (λ p. in-closes c at o (d .request) (kindNumber k) (λ j m. rw e (or-left (inKind j) (outKind j) m)) h)
+no-data-story c n k d e (held.Out at o) h =
+    either (Story c n) (ltb (o .size) (d .size)) _ _ (λ p. tt) (λ p. out-closes c at o (d .request) (kindNumber k) (λ j m. rw e (or-right (inKind j) (outKind j) m)) h)
+
+cancelled-story : (c : Channel) (n : ℕ) (k : Kind) (id : RequestId) → kindNumber k ≡ 13 → (here : Held) → Stands c id here → Story c n (cancelled k id here)
+cancelled-story c n k id e held.Nothing h = (refl, low (kindNumber k) (omega arith))
+cancelled-story c n k id e (held.Io at o) h = io-closes c at o id (kindNumber k) (λ j m. rw e (or-left (ioKind j) _ m)) h
+cancelled-story c n k id e (held.In at o) h = in-closes c at o id (kindNumber k) (λ j m. rw e (or-right (ioKind j) _ (or-left (inKind j) (outKind j) m))) h
+cancelled-story c n k id e (held.Out at o) h = out-closes c at o id (kindNumber k) (λ j m. rw e (or-right (ioKind j) _ (or-right (inKind j) (outKind j) m))) h
+
+out-story : (c : Channel) (n : ℕ) (k : Kind) (r : Request) (jitter : ℕ) → kindNumber k ≡ 11 → (here : Held) (w : Found) → Story c n (transferOutDecided k r n jitter here w)
+unfolding opened
+out-story c n k r jitter e here w =
+    either (Story c n) (r .noack) _ _ (λ p. either (Story c n) (eqb jitter 0) _ _ (λ q. tt) (λ q. (refl, low 12 (omega arith))))
+    (λ p. taken-story c n k r (Out (opened r n)) (omega arith) (record { open′ = opened r n; is = refl; number = refl; id = refl; fits = rw e }) here w)
+
+decided-story : (c : Channel) (n : ℕ) (k : Kind) (a : Asked) → Kinded (kindNumber k) a → Story c n (decided k a n (c .jitter) (seenOf c a))
+unfolding decided hereOf opened
+decided-story c n k (asks.Fails fault) h = tt
+decided-story c n k asks.Value h = tt
+decided-story c n k asks.Step h = (refl, h)
+decided-story c n k (asks.Device id ms) h = (refl, h)
+decided-story c n k (asks.Callback id) h = (refl, h)
+decided-story c n k (asks.IoControl r) h =
+    taken-story c n k r (Io (opened r n)) (io-low (kindNumber k) h) (record { open′ = opened r n; is = refl; number = refl; id = refl; fits = h }) (heldOf c (r .request)) (lowestOf c)
+decided-story c n k (asks.TransferIn r) h =
+    taken-story c n k r (In (opened r n)) (omega arith) (record { open′ = opened r n; is = refl; number = refl; id = refl; fits = rw h }) (heldOf c (r .request)) (lowestOf c)
+decided-story c n k (asks.TransferOut r) h = out-story c n k r (c .jitter) h (heldOf c (r .request)) (lowestOf c)
+decided-story c n k (asks.Cancel id) h = cancelled-story c n k id h (heldOf c id) (stands c id)
+decided-story c n k asks.Retract h = (refl, h)
+decided-story c n k (asks.IoCompletion d) h = io-story c n k d h (heldOf c (d .request)) (stands c (d .request))
+decided-story c n k (asks.UrbCompletion d) h = urb-story c n k d h (heldOf c (d .request)) (stands c (d .request))
+decided-story c n k (asks.UrbCompletionNoData d) h = no-data-story c n k d h (heldOf c (d .request)) (stands c (d .request))
+
+-- ---- from the message
+abbrev Asking : Admitted → Type 0
+Asking (admit.Refused k a) = Unit {0}
+Asking (admit.Asks k a) = Kinded (kindNumber k) a
+
+as-asking : (phase : ℕ) (k : KindFound) (m : List ℕ) → Asking (asksAs phase k m)
+unfolding asksIn
+as-asking phase kind.Nothing m = tt
+as-asking phase (kind.Is k) m = either Asking (eqb (phasesOf k .before) phase) _ _ (λ e. kinded k m) (λ e. tt)
+
+head-asking : (phase : ℕ) (d b : Known) (side : ℕ) (h : HeaderRead) (m : List ℕ) → Asking (fromHead phase d b side h m)
+unfolding fromHeader
+head-asking phase d b side header.Short m = tt
+head-asking phase d b side (header.Is h) m =
+    either Asking (ltb 65535 (length m)) _ _ (λ e. tt) (λ e. as-asking phase (firstFitting kinds h side d b) m)
+
+by-story : (c : Channel) (n : ℕ) (a : Admitted) → Asking a → Story c n (verdictBy c n a)
+by-story c n (admit.Refused k a) h = tt
+by-story c n (admit.Asks k a) h = decided-story c n k a h
+
+pub story : (c : Channel) (n side : ℕ) (m : List ℕ) → Story c n (verdictOf c n side m)
+unfolding verdictOf admitted
+story c n side m = by-story c n (admitted (c .phase) (c .device) (c .callback) side m) (head-asking (c .phase) (c .device) (c .callback) side (headerOf m) m)
