@@ -9,7 +9,7 @@ use lib.Dec.{eqb, eqb→eq, T}
 use borrow.Author.Tests.{eq-eqb, ne-eqb}
 use lib.ListN.{length, getD}
 use Rattle.order.specs.Machine.{Tagged, keep, calls, numbers}
-use Rattle.order.specs.Reorder.{Reordered, Renumbers}
+use Rattle.order.specs.Reorder.{Renumbers}
 
 pick : {A : Type 0} → Bool → A → A → A
 pick true a b = a
@@ -114,7 +114,8 @@ renumber-some q n (x ∷ xs) h p i l =
     go true ih = head
     go false ih = ih
 
-pub renumbering : {C : Type 0} (k : ℕ) (xs ys : List (Tagged C)) → 1 ≤ k → Reordered xs ys → (f : ℕ → ℕ) × Renumbers k xs ys f
+-- it asks only that each channel has as many calls in the one as in the other
+pub renumbering : {C : Type 0} (k : ℕ) (xs ys : List (Tagged C)) → 1 ≤ k → ((d : ℕ) → length (calls d xs) ≡ length (calls d ys)) → (f : ℕ → ℕ) × Renumbers k xs ys f
 renumbering k xs ys h same = (
   renumber (λ d. numbers d k ys) k xs,
   record {
@@ -125,4 +126,4 @@ renumbering k xs ys h same = (
 )
   where
     as-long : (d : ℕ) → length (numbers d k ys) ≡ length (numbers d k xs)
-    as-long d = length-numbers d k ys ∙ ap length (sym (same d)) ∙ sym (length-numbers d k xs)
+    as-long d = length-numbers d k ys ∙ sym (same d) ∙ sym (length-numbers d k xs)

@@ -54,10 +54,13 @@ module _ (M : Machine) where
         (simp (length-map, length-ends))
         (λ d l. cc (state-same d, List·getD-map (M .renS f) (ends M k (replicate m (M .new)) xs) d (M .outside), M .outside-law f))
 
+as-many : {C : Type 0} (xs ys : List (Tagged C)) → Reordered xs ys → (d : ℕ) → length (calls d xs) ≡ length (calls d ys)
+as-many xs ys same d = ap length (same d)
+
 -- There is one renumbering under which what the calls of every channel give, and the table at the end, are those of the other run.
 pub reorder : (M : Machine) (m k : ℕ) (xs ys : List (Tagged (M .Call))) → 1 ≤ k → Reordered xs ys → (f : ℕ → ℕ) × SameUnder M m k xs ys f
 reorder M m k xs ys h same =
-    let (f, ren) = renumbering k xs ys h same in
+    let (f, ren) = renumbering k xs ys h (as-many xs ys same) in
     (f, record { renumbers = ren; given = given-same M m k xs ys same f ren; table = table-same M m k xs ys same f ren })
 
 -- 'Reordered' is neither too strong nor too weak: two neighbours on different channels may change places,
