@@ -1,7 +1,7 @@
 -- Demand 1 of both calls.
-use Prim.Native.Nat.{ℕ, zero, suc, _+_, _≤_}
+use Prim.Native.Nat.{ℕ, zero, suc, _+_}
 use native.Mathlib.Omega.{arith}
-use mathlib.Core.Path.{_≡_, refl, sym, ap}
+use mathlib.Core.Path.{_≡_, refl, ap}
 use mathlib.Core.List.{List, [], _∷_}
 use lib.ListN.{getD, set}
 use lib.Dec.{ltb}
@@ -16,11 +16,11 @@ use Rattle.table.specs.Entry.{acceptedEntry, answerOf, closeEntry, judgedEntry,
 use Rattle.table.specs.Table.{blankChannel, channelOf, closeOf, judgedBy, judgeOf, moved, noPlace, unnumbered, unplaced, usedUp}
 use Rattle.table.specs.declared.table.Table.{Table}
 use Rattle.journal.specs.Calls.{Asks, Call, called, calledBy, closing, judging, sideBy, stampBy}
-use Rattle.promises.specs.Demand1.{Demand1, Entered}
+use Rattle.promises.specs.Demand1.{Demand1}
 use Rattle.promises.proofs.Verdicts.{Proper, proper}
 
 -- a list with what stands at a place put there again
-set-same : {A : Type 0} (l : List A) (i : ℕ) (d : A) → set l i (getD l i d) ≡ l
+pub set-same : {A : Type 0} (l : List A) (i : ℕ) (d : A) → set l i (getD l i d) ≡ l
 set-same [] i d = refl
 set-same (a ∷ l) zero d = refl
 set-same (a ∷ l) (suc i) d = ap (λ r. a ∷ r) (set-same l i d)

@@ -1,5 +1,5 @@
 -- Demand 3 of the real calls, by the theory of `order`.
-use Prim.Native.Nat.{ℕ, zero, suc, _+_, _≤_}
+use Prim.Native.Nat.{ℕ, _+_, _≤_}
 use mathlib.Core.Path.{_≡_, refl, sym, ap, _∙_}
 use mathlib.Core.List.{List, [], _∷_, map}
 use mathlib.Core.Bool.{Bool, true, false}
@@ -9,12 +9,11 @@ use Rattle.channel.specs.Rows.{newChannel}
 use Rattle.channel.specs.declared.channel.Channel.{Channel}
 use Rattle.table.specs.Table.{openOf}
 use Rattle.journal.specs.Calls.{after, Call}
-use Rattle.order.specs.Machine.{ends, Given, givenOn, gives, keep, renG}
-use Rattle.order.specs.Reorder.{Reordered, SameUnder}
+use Rattle.order.specs.Machine.{Given, givenOn, gives, keep, renG}
 use Rattle.order.proofs.Reorder.{reorder}
 use Rattle.promises.specs.Demand3.{Demand3, doneOn, SameCalls}
 use Rattle.promises.specs.Gate.{Gave, inside, outside, Place, renChannel, renPlace}
-use Rattle.promises.specs.Runs.{Done, renDone, run, tagged}
+use Rattle.promises.specs.Runs.{renDone, run, tagged}
 use Rattle.promises.proofs.Gate.{gate}
 use Rattle.promises.proofs.Runs.{after-is, doneOf, run-is}
 

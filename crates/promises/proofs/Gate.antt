@@ -1,15 +1,13 @@
 -- The gate is a machine of `order`.
 use Prim.Native.Nat.{ℕ}
-use mathlib.Core.Path.{_≡_, refl, sym, ap, _∙_}
-use mathlib.Core.List.{List, []}
+use mathlib.Core.Path.{_≡_, refl, ap}
+use mathlib.Core.List.{List}
 use mathlib.Core.Bool.{Bool, true, false, cond}
-use Rattle.channel.specs.Rows.{newChannel, openCount}
-use Rattle.channel.specs.declared.channel.Channel.{Channel}
+use Rattle.channel.specs.Rows.{newChannel}
 use Rattle.rules.specs.declared.verdict.Verdict.{Verdict}
 use Rattle.rules.specs.declared.verdict.Verdict.the-variants.{Refused, Accepted}
 use Rattle.turn.specs.Step.{afterOf, verdictOf}
 use Rattle.table.specs.Entry.{answerOf, judgedEntry}
-use Rattle.table.specs.Payload.{shownBy}
 use Rattle.table.specs.Table.{ofSide}
 use Rattle.journal.specs.Calls.{Asks, judging, closing}
 use Rattle.order.specs.Machine.{Machine}

@@ -1,6 +1,6 @@
 -- The gate stores journal numbers and hands them back, and does nothing else with them.
 use Prim.Native.Nat.{ℕ, zero, suc, _+_}
-use mathlib.Core.Path.{_≡_, refl, sym, ap, _∙_}
+use mathlib.Core.Path.{_≡_, refl, ap, _∙_}
 use mathlib.Core.List.{List, [], _∷_, map}
 use mathlib.Core.Bool.{Bool, true, false, cond}
 use lib.ListN.{getD, set, replicate, List·getD-map}
@@ -12,7 +12,7 @@ use Rattle.wire.specs.declared.message.Asked.the-variants as asks
 use Rattle.wire.specs.declared.message.IoCompleted.{IoCompleted}
 use Rattle.wire.specs.declared.message.Request.{Request}
 use Rattle.wire.specs.declared.message.UrbCompleted.{UrbCompleted}
-use Rattle.channel.specs.Rows.{findOf, firstFrom, free, freeRow, heldAt, heldBy, heldOf, holds, lowestOf, newChannel, openCount, weight, withRows}
+use Rattle.channel.specs.Rows.{findOf, firstFrom, free, freeRow, heldAt, heldBy, heldOf, holds, lowestOf, openCount, weight}
 use Rattle.channel.specs.declared.channel.Channel.{Channel}
 use Rattle.channel.specs.declared.channel.Found.{Found}
 use Rattle.channel.specs.declared.channel.Found.the-variants as found
@@ -22,8 +22,8 @@ use Rattle.channel.specs.declared.row.Open.{Open}
 use Rattle.channel.specs.declared.row.Row.{Row}
 use Rattle.channel.specs.declared.row.Sort.{Sort}
 use Rattle.channel.specs.declared.row.Sort.the-variants.{Free, Io, In, Out}
-use Rattle.rules.specs.Request.{opened, taken, transferOutDecided, unacknowledged}
-use Rattle.rules.specs.Completion.{cancelled, ioClosed, ioCompleted, noDataCompleted, resultAgrees, urbClosed, urbCompleted}
+use Rattle.rules.specs.Request.{opened, taken, transferOutDecided}
+use Rattle.rules.specs.Completion.{cancelled, ioCompleted, noDataCompleted, resultAgrees, urbClosed, urbCompleted}
 use Rattle.rules.specs.Decide.{decided}
 use Rattle.rules.specs.declared.decide.Seen.{Seen}
 use Rattle.rules.specs.declared.verdict.Act.{Act}

@@ -1,3 +1,4 @@
+pub mod Admitted
 pub mod Verdicts
 pub mod Demand1
 pub mod Stamp

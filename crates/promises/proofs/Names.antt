@@ -4,7 +4,7 @@ use native.Mathlib.Omega.{arith}
 use mathlib.Core.Path.{_≡_, refl, sym, ap, subst, _∙_}
 use mathlib.Core.Logic.{_⊎_, inl, inr, _≢_}
 use mathlib.Core.List.{List, [], _∷_, _++_}
-use mathlib.Core.Bool.{Bool, true, false, cond, not, _||_}
+use mathlib.Core.Bool.{Bool, true, false, not, _||_}
 use lib.ListN.{getD, length, length-set, replicate, set}
 use lib.Seq.{getD-set-same}
 use lib.Dec.{eqb, ltb}
@@ -17,7 +17,6 @@ use Rattle.channel.specs.declared.row.Row.{Row}
 use Rattle.channel.specs.declared.row.Sort.{Sort}
 use Rattle.channel.specs.declared.row.Sort.the-variants.{Free, Io, In, Out}
 use Rattle.channel.proofs.Laws.{all-alike, set-read}
-use Rattle.answers.specs.Answer.{answerNumber}
 use Rattle.answers.specs.declared.answer.Answer.the-variants as answer
 use Rattle.rules.specs.declared.verdict.Accepted.{Accepted}
 use Rattle.rules.specs.declared.verdict.Act.{Act}
@@ -27,17 +26,17 @@ use Rattle.rules.specs.declared.verdict.Verdict.the-variants as verdict
 use Rattle.turn.specs.Step.{afterOf, verdictOf}
 use Rattle.turn.specs.Store.{stored}
 use Rattle.table.specs.Entry.{acceptedEntry, answerOf, closeEntry, judgedEntry, refusedEntry}
-use Rattle.table.specs.Table.{blankChannel, channelOf, closeOf, judgedBy, judgeOf, moved, noPlace, numbered, ofSide, openOf, unnumbered, unplaced, usedUp}
+use Rattle.table.specs.Table.{blankChannel, channelOf, closeOf, judgedBy, judgeOf, moved, noPlace, ofSide, openOf, unplaced, usedUp}
 use Rattle.table.specs.declared.entry.Entry.{Entry}
-use Rattle.table.specs.declared.entry.Noted.{Noted}
 use Rattle.table.specs.declared.entry.Noted.the-variants.{Nothing, Is}
 use Rattle.table.specs.declared.table.Judged.{Judged}
 use Rattle.table.specs.declared.table.Table.{Table}
 use Rattle.journal.specs.Calls.{after, Asks, Call, called, calledBy, closing, judging}
 use Rattle.journal.specs.Journal.{joined, journalFrom, journalOf}
 use Rattle.journal.proofs.Runs.{journal-kept}
-use Rattle.promises.specs.Names.{AllName, Among, mayClose, Named, Names}
+use Rattle.promises.specs.Names.{AllName, Among, Names}
 use Rattle.promises.specs.Sound.{Numbered, rowOf, Sound, Used}
+use Rattle.promises.proofs.Demand1.{set-same}
 use Rattle.promises.proofs.Kinded.{NoCompletion}
 use Rattle.promises.proofs.Sound.{sound-call, sound-open}
 use Rattle.promises.proofs.Story.{Closes, kindFor, Opens, Story, story, Tells}
@@ -309,11 +308,6 @@ still h e t u k s c n l =
     less h e t u k (ap length l ∙ k .size) (omega (arith, n)) (omega (arith, n, c))
     (λ d i o p. ap (λ (x : List Channel). rowOf (getD x d blankChannel) i .sort) l)
     (λ d i o p z. let v = row-used t s d i o (subst (λ (x : List Channel). Holds (rowOf (getD x d blankChannel) i .sort) o) l p) in absurd (omega (arith, z, c, v .0)))
-
-set-same : {A : Type 0} (l : List A) (i : ℕ) (d : A) → set l i (getD l i d) ≡ l
-set-same [] i d = refl
-set-same (x ∷ l) zero d = refl
-set-same (x ∷ l) (suc i) d = ap (λ r. x ∷ r) (set-same l i d)
 
 said-well : (h : List Entry) (t : Table) (ch side stamp : ℕ) → Kept h t → Sound t → 1 ≤ t .next → ch < 8
     → (v : Verdict) → Proper v → Story (channelOf t ch) (t .next) v → Well h (judgedBy t ch side stamp v)

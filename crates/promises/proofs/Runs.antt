@@ -3,28 +3,26 @@ use Prim.Native.Nat.{ℕ, zero, suc, _+_, _-_, _<_, _≤_}
 use native.Mathlib.Omega.{arith}
 use native.Mathlib.Numerals.{add-one}
 use mathlib.Core.Path.{_≡_, refl, sym, ap, subst, _∙_}
-use mathlib.Core.Logic.{_≢_}
 use mathlib.Core.List.{List, [], _∷_, map}
-use mathlib.Core.Bool.{Bool, true, false, cond, not, _||_}
-use lib.ListN.{getD, length, length-map, length-set, replicate, set, List·getD-eq-default}
+use mathlib.Core.Bool.{Bool, true, false, not}
+use lib.ListN.{getD, length, length-map, length-set, set, List·getD-eq-default}
 use lib.Seq.{set-out}
-use lib.Dec.{eqb, ltb}
+use lib.Dec.{ltb}
 use borrow.Author.Tests.{le-ltb, lt-ltb, ltb-false, ltb-true, ne-eqb}
 use Rattle.wire.specs.Message.{emptyPart}
-use Rattle.channel.specs.Rows.{newChannel, openCount}
+use Rattle.channel.specs.Rows.{newChannel}
 use Rattle.channel.specs.declared.channel.Channel.{Channel}
 use Rattle.rules.specs.declared.verdict.Verdict.{Verdict}
 use Rattle.rules.specs.declared.verdict.Verdict.the-variants.{Refused, Accepted}
 use Rattle.turn.specs.Step.{afterOf, verdictOf}
 use Rattle.table.specs.Entry.{answerOf, judgedEntry}
 use Rattle.table.specs.Payload.{cutOf, payloadOf, shownBy, shownOf}
-use Rattle.table.specs.Table.{blankChannel, channelOf, closeOf, judgeOf, noPlace, ofSide, openOf, usedUp}
+use Rattle.table.specs.Table.{blankChannel, channelOf, closeOf, judgeOf, ofSide, usedUp}
 use Rattle.table.specs.declared.entry.Entry.{Entry}
 use Rattle.table.specs.declared.entry.Noted.the-variants.{Is}
 use Rattle.table.specs.declared.table.Table.{Table}
 use Rattle.journal.specs.Calls.{after, Asks, Call, called, calledBy, closing, judging}
 use Rattle.order.specs.Machine.{Given, ends, gives}
-use Rattle.promises.specs.Cases.{payloadBy}
 use Rattle.promises.specs.Gate.{gateStep, Gave, inside, outside, Place, saidGave}
 use Rattle.promises.specs.Runs.{Done, doneBy, run, tagged}
 use Rattle.promises.proofs.Gate.{gate}

@@ -1,25 +1,17 @@
 -- Every table that is reached from a new one is sound.
-use Prim.Native.Nat.{ℕ, zero, suc, _+_, _<_, _≤_}
+use Prim.Native.Nat.{ℕ, zero, suc, _+_, _≤_}
 use native.Mathlib.Omega.{arith}
 use mathlib.Core.Path.{_≡_, refl, sym, ap, subst, _∙_}
 use mathlib.Core.Logic.{_⊎_, inl, inr}
 use mathlib.Core.List.{List, [], _∷_}
-use mathlib.Core.Bool.{Bool, true, false, cond, _||_, true≢false}
-use lib.ListN.{getD, length, set, replicate}
+use mathlib.Core.Bool.{Bool, true, false, _||_, true≢false}
+use lib.ListN.{getD, set, replicate}
 use lib.Dec.{ltb, eqb}
 use borrow.Author.Tests.{eqb-true, eqb-false}
 use Rattle.words.proofs.Steps.{either}
-use Rattle.words.specs.Header.{headerOf}
-use Rattle.words.specs.declared.header.HeaderRead.{HeaderRead}
-use Rattle.words.specs.declared.header.HeaderRead.the-variants as header
-use Rattle.words.specs.declared.ids.Known.{Known}
 use Rattle.words.specs.declared.ids.RequestId.{RequestId}
 use Rattle.words.specs.declared.kind.Kind.{Kind}
 use Rattle.wire.specs.Assigned.{Assigned, Given}
-use Rattle.kinds.specs.Kinds.{firstFitting, kinds}
-use Rattle.wire.specs.Message.{askedOf}
-use Rattle.kinds.specs.declared.kind.KindFound.{KindFound}
-use Rattle.kinds.specs.declared.kind.KindFound.the-variants as kind
 use Rattle.wire.specs.declared.message.Asked.{Asked}
 use Rattle.wire.specs.declared.message.Asked.the-variants as asks
 use Rattle.wire.specs.declared.message.IoCompleted.{IoCompleted}
@@ -37,7 +29,6 @@ use Rattle.channel.specs.declared.channel.Found.the-variants as found
 use Rattle.channel.specs.declared.channel.Held.{Held}
 use Rattle.channel.specs.declared.channel.Held.the-variants as held
 use Rattle.channel.proofs.Laws.{all-alike, nothing-held, set-read}
-use Rattle.answers.specs.Phase.{phasesOf}
 use Rattle.rules.specs.Request.{opened, taken, transferOutDecided}
 use Rattle.rules.specs.Completion.{cancelled, ioCompleted, noDataCompleted, resultAgrees, urbClosed, urbCompleted}
 use Rattle.rules.specs.Decide.{decided}
@@ -45,7 +36,7 @@ use Rattle.rules.specs.declared.verdict.Act.{Act}
 use Rattle.rules.specs.declared.verdict.Act.the-variants as act
 use Rattle.rules.specs.declared.verdict.Verdict.{Verdict}
 use Rattle.rules.specs.declared.verdict.Verdict.the-variants.{Refused, Accepted}
-use Rattle.turn.specs.Admit.{admitted, asksAs, asksIn, fromHead, fromHeader}
+use Rattle.turn.specs.Admit.{admitted}
 use Rattle.turn.specs.Step.{afterOf, verdictBy, verdictOf}
 use Rattle.turn.specs.Store.{done, hereOf, seenOf, stored}
 use Rattle.turn.specs.declared.admit.Admitted.{Admitted}
@@ -54,6 +45,7 @@ use Rattle.table.specs.Table.{blankChannel, channelOf, closeOf, judgeOf, noPlac
 use Rattle.table.specs.declared.table.Judged.{Judged}
 use Rattle.table.specs.declared.table.Table.{Table}
 use Rattle.journal.specs.Calls.{after, Asks, Call, called, calledBy, closing, judging}
+use Rattle.promises.proofs.Admitted.{admitted-has}
 use Rattle.promises.specs.Sound.{Numbered, rowOf, Sound, SoundChannel}
 
 -- What an act asks of the channel that it is done to, so that it stays sound: n is the call's number.
@@ -140,25 +132,15 @@ abbrev Learns : Admitted → Type 0
 Learns (admit.Refused k a) = Unit {0}
 Learns (admit.Asks k a) = Assigned a
 
-as-learns : (phase : ℕ) (k : KindFound) (m : List ℕ) → Learns (asksAs phase k m)
-unfolding asksIn
-as-learns phase kind.Nothing m = tt
-as-learns phase (kind.Is k) m = either Learns (eqb (phasesOf k .before) phase) _ _ (λ e. assigned k m) (λ e. tt)
-
-head-learns : (phase : ℕ) (d b : Known) (side : ℕ) (h : HeaderRead) (m : List ℕ) → Learns (fromHead phase d b side h m)
-unfolding fromHeader
-head-learns phase d b side header.Short m = tt
-head-learns phase d b side (header.Is h) m =
-    either Learns (ltb 65535 (length m)) _ _ (λ e. tt) (λ e. as-learns phase (firstFitting kinds h side d b) m)
-
 by-safe : (c : Channel) (n : ℕ) (a : Admitted) → 1 ≤ n → Learns a → Safe c n (verdictBy c n a)
 by-safe c n (admit.Refused k a) h g = tt
 by-safe c n (admit.Asks k a) h g = decided-safe c n k a h g
 
 safe : (c : Channel) (n side : ℕ) (m : List ℕ) → 1 ≤ n → Safe c n (verdictOf c n side m)
-unfolding verdictOf admitted
+unfolding verdictOf
 safe c n side m h =
-    by-safe c n (admitted (c .phase) (c .device) (c .callback) side m) h (head-learns (c .phase) (c .device) (c .callback) side (headerOf m) m)
+    by-safe c n (admitted (c .phase) (c .device) (c .callback) side m) h
+    (admitted-has Learns m tt tt tt (λ k. tt) (λ k. assigned k m) (c .phase) (c .device) (c .callback) side)
 
 -- what holds below a number holds below the next
 older : (n : ℕ) (s : Sort) → Numbered n s → Numbered (n + 1) s

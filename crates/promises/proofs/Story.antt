@@ -1,18 +1,14 @@
 -- What an accepted message does with rows and numbers: it opens a request under its own number, or closes one and names it, or neither.
-use Prim.Native.Nat.{ℕ, _+_, _≤_}
+use Prim.Native.Nat.{ℕ, _≤_}
 use native.Mathlib.Omega.{arith}
 use mathlib.Core.Path.{_≡_, refl, sym, ap, subst, _∙_}
 use mathlib.Core.List.{List}
-use mathlib.Core.Bool.{Bool, true, false, cond, false≢true, _||_}
-use lib.ListN.{getD, length}
+use mathlib.Core.Bool.{Bool, true, false, false≢true, _||_}
+use lib.ListN.{getD}
 use lib.Dec.{eqb, ltb}
 use borrow.Author.Tests.{eqb-true}
 use Rattle.words.proofs.Steps.{either}
-use Rattle.words.specs.Header.{headerOf}
 use Rattle.words.specs.Kind.{kindNumber}
-use Rattle.words.specs.declared.header.HeaderRead.{HeaderRead}
-use Rattle.words.specs.declared.header.HeaderRead.the-variants as header
-use Rattle.words.specs.declared.ids.Known.{Known}
 use Rattle.words.specs.declared.ids.RequestId.{RequestId}
 use Rattle.words.specs.declared.kind.Kind.{Kind}
 use Rattle.wire.specs.declared.message.Asked.{Asked}
@@ -20,9 +16,7 @@ use Rattle.wire.specs.declared.message.Asked.the-variants as asks
 use Rattle.wire.specs.declared.message.IoCompleted.{IoCompleted}
 use Rattle.wire.specs.declared.message.Request.{Request}
 use Rattle.wire.specs.declared.message.UrbCompleted.{UrbCompleted}
-use Rattle.kinds.specs.Kinds.{firstFitting, kinds}
-use Rattle.kinds.specs.declared.kind.KindFound.{KindFound}
-use Rattle.kinds.specs.declared.kind.KindFound.the-variants as kind
+use Rattle.kinds.specs.Kinds.{kinds}
 use Rattle.channel.specs.Rows.{findOf, freeRow, heldAt, heldBy, heldOf, holds, lowestOf}
 use Rattle.channel.specs.declared.channel.Channel.{Channel}
 use Rattle.channel.specs.declared.channel.Found.{Found}
@@ -33,21 +27,21 @@ use Rattle.channel.specs.declared.row.Open.{Open}
 use Rattle.channel.specs.declared.row.Sort.{Sort}
 use Rattle.channel.specs.declared.row.Sort.the-variants.{Free, Io, In, Out}
 use Rattle.channel.proofs.Laws.{first-there}
-use Rattle.answers.specs.Phase.{phasesOf}
 use Rattle.rules.specs.Request.{opened, taken, transferOutDecided}
-use Rattle.rules.specs.Completion.{cancelled, ioCompleted, noDataCompleted, resultAgrees, urbClosed, urbCompleted}
+use Rattle.rules.specs.Completion.{cancelled, ioCompleted, noDataCompleted, resultAgrees, urbCompleted}
 use Rattle.rules.specs.Decide.{decided}
 use Rattle.rules.specs.declared.verdict.Act.{Act}
 use Rattle.rules.specs.declared.verdict.Act.the-variants as act
 use Rattle.rules.specs.declared.verdict.Verdict.{Verdict}
 use Rattle.rules.specs.declared.verdict.Verdict.the-variants.{Refused, Accepted}
-use Rattle.turn.specs.Admit.{admitted, asksAs, asksIn, fromHead, fromHeader}
+use Rattle.turn.specs.Admit.{admitted}
 use Rattle.turn.specs.Step.{verdictBy, verdictOf}
 use Rattle.turn.specs.Store.{hereOf, seenOf}
 use Rattle.turn.specs.declared.admit.Admitted.{Admitted}
 use Rattle.turn.specs.declared.admit.Admitted.the-variants as admit
 use Rattle.promises.specs.Names.{inKind, ioKind, mayClose, outKind}
 use Rattle.promises.specs.Sound.{rowOf}
+use Rattle.promises.proofs.Admitted.{admitted-has}
 use Rattle.promises.proofs.Kinded.{Kinded, kinded, NoCompletion}
 
 -- the kinds of request that a row's sort is for
@@ -215,21 +209,12 @@ abbrev Asking : Admitted → Type 0
 Asking (admit.Refused k a) = Unit {0}
 Asking (admit.Asks k a) = Kinded (kindNumber k) a
 
-as-asking : (phase : ℕ) (k : KindFound) (m : List ℕ) → Asking (asksAs phase k m)
-unfolding asksIn
-as-asking phase kind.Nothing m = tt
-as-asking phase (kind.Is k) m = either Asking (eqb (phasesOf k .before) phase) _ _ (λ e. kinded k m) (λ e. tt)
-
-head-asking : (phase : ℕ) (d b : Known) (side : ℕ) (h : HeaderRead) (m : List ℕ) → Asking (fromHead phase d b side h m)
-unfolding fromHeader
-head-asking phase d b side header.Short m = tt
-head-asking phase d b side (header.Is h) m =
-    either Asking (ltb 65535 (length m)) _ _ (λ e. tt) (λ e. as-asking phase (firstFitting kinds h side d b) m)
-
 by-story : (c : Channel) (n : ℕ) (a : Admitted) → Asking a → Story c n (verdictBy c n a)
 by-story c n (admit.Refused k a) h = tt
 by-story c n (admit.Asks k a) h = decided-story c n k a h
 
 pub story : (c : Channel) (n side : ℕ) (m : List ℕ) → Story c n (verdictOf c n side m)
-unfolding verdictOf admitted
-story c n side m = by-story c n (admitted (c .phase) (c .device) (c .callback) side m) (head-asking (c .phase) (c .device) (c .callback) side (headerOf m) m)
+unfolding verdictOf
+story c n side m =
+    by-story c n (admitted (c .phase) (c .device) (c .callback) side m)
+    (admitted-has Asking m tt tt tt (λ k. tt) (λ k. kinded k m) (c .phase) (c .device) (c .callback) side)

@@ -4,19 +4,10 @@ use native.Mathlib.Omega.{arith}
 use mathlib.Core.Path.{_≡_, refl}
 use mathlib.Core.List.{List}
 use mathlib.Core.Bool.{Bool, cond}
-use lib.ListN.{length}
 use lib.Dec.{ltb, eqb}
 use Rattle.words.proofs.Steps.{either}
-use Rattle.words.specs.Header.{headerOf}
 use Rattle.words.specs.Kind.{kindNumber}
-use Rattle.words.specs.declared.header.Header.{Header}
-use Rattle.words.specs.declared.header.HeaderRead.{HeaderRead}
-use Rattle.words.specs.declared.header.HeaderRead.the-variants as header
-use Rattle.words.specs.declared.ids.Known.{Known}
 use Rattle.words.specs.declared.kind.Kind.{Kind}
-use Rattle.kinds.specs.Kinds.{firstFitting, kinds}
-use Rattle.kinds.specs.declared.kind.KindFound.{KindFound}
-use Rattle.kinds.specs.declared.kind.KindFound.the-variants as kind
 use Rattle.wire.specs.declared.message.Asked.{Asked}
 use Rattle.wire.specs.declared.message.Asked.the-variants as asks
 use Rattle.wire.specs.declared.message.IoCompleted.{IoCompleted}
@@ -31,19 +22,19 @@ use Rattle.channel.specs.declared.channel.Found.the-variants as found
 use Rattle.channel.specs.declared.channel.Held.{Held}
 use Rattle.channel.specs.declared.channel.Held.the-variants as held
 use Rattle.answers.specs.Answer.{answerNumber}
-use Rattle.answers.specs.Phase.{phasesOf}
 use Rattle.answers.specs.declared.answer.Answer.the-variants.{Value}
-use Rattle.rules.specs.Request.{taken, transferOutDecided, unacknowledged}
-use Rattle.rules.specs.Completion.{cancelled, ioClosed, ioCompleted, noDataCompleted, resultAgrees, urbClosed, urbCompleted}
+use Rattle.rules.specs.Request.{taken, transferOutDecided}
+use Rattle.rules.specs.Completion.{cancelled, ioCompleted, noDataCompleted, resultAgrees, urbClosed, urbCompleted}
 use Rattle.rules.specs.Decide.{decided}
 use Rattle.rules.specs.declared.decide.Seen.{Seen}
 use Rattle.rules.specs.declared.verdict.Verdict.{Verdict}
 use Rattle.rules.specs.declared.verdict.Verdict.the-variants.{Refused, Accepted}
-use Rattle.turn.specs.Admit.{admitted, asksAs, asksIn, fromHead, fromHeader}
+use Rattle.turn.specs.Admit.{admitted}
 use Rattle.turn.specs.Step.{verdictBy, verdictOf}
 use Rattle.turn.specs.Store.{seenOf}
 use Rattle.turn.specs.declared.admit.Admitted.{Admitted}
 use Rattle.turn.specs.declared.admit.Admitted.the-variants as admit
+use Rattle.promises.proofs.Admitted.{admitted-has}
 
 abbrev Late : ℕ → ℕ → Type 0
 Late n k = (3 ≤ n) × (n ≤ 5 → k ≡ 0)
@@ -119,21 +110,12 @@ abbrev Admits : Admitted → Type 0
 Admits (admit.Refused k a) = Late (answerNumber a) k
 Admits (admit.Asks k a) = Unit {0}
 
-as-admits : (phase : ℕ) (k : KindFound) (m : List ℕ) → Admits (asksAs phase k m)
-unfolding asksIn
-as-admits phase kind.Nothing m = (omega arith, λ g. refl)
-as-admits phase (kind.Is k) m = either Admits (eqb (phasesOf k .before) phase) _ _ (λ e. tt) (λ e. late 6 (kindNumber k) (omega arith))
-
-head-admits : (phase : ℕ) (d b : Known) (side : ℕ) (h : HeaderRead) (m : List ℕ) → Admits (fromHead phase d b side h m)
-unfolding fromHeader
-head-admits phase d b side header.Short m = (omega arith, λ g. refl)
-head-admits phase d b side (header.Is h) m =
-    either Admits (ltb 65535 (length m)) _ _ (λ e. (omega arith, λ g. refl)) (λ e. as-admits phase (firstFitting kinds h side d b) m)
-
 by-proper : (c : Channel) (n : ℕ) (a : Admitted) → Admits a → Proper (verdictBy c n a)
 by-proper c n (admit.Refused k a) h = h
 by-proper c n (admit.Asks k a) h = decided-proper k a n (c .jitter) (seenOf c a)
 
 pub proper : (c : Channel) (n side : ℕ) (m : List ℕ) → Proper (verdictOf c n side m)
-unfolding verdictOf admitted
-proper c n side m = by-proper c n (admitted (c .phase) (c .device) (c .callback) side m) (head-admits (c .phase) (c .device) (c .callback) side (headerOf m) m)
+unfolding verdictOf
+proper c n side m =
+    by-proper c n (admitted (c .phase) (c .device) (c .callback) side m)
+    (admitted-has Admits m (omega arith, λ g. refl) (omega arith, λ g. refl) (omega arith, λ g. refl) (λ k. late 6 (kindNumber k) (omega arith)) (λ k. tt) (c .phase) (c .device) (c .callback) side)
