@@ -1,7 +1,7 @@
 -- 01 "Answer numbers": the number of each answer.
 use Prim.Native.Nat.{ℕ}
 use Rattle.answers.specs.declared.answer.Answer.{Answer}
-use Rattle.answers.specs.declared.answer.Answer.the-variants.{Accepted, NoNumber, NoPlace, Short, Long, NoKind, WrongPhase, Sizes, Value, AlreadyOpen, Full, NotOpen, WrongSort, TooMuch, Disagrees}
+use Rattle.answers.specs.declared.answer.Answer.the-variants.{Accepted, NoNumber, NoPlace, Short, Long, NoKind, WrongPhase, Sizes, Value, AlreadyOpen, Full, NotOpen, WrongSort, TooMuch, ResultDisagrees}
 
 abbrev pub answerNumber : Answer → ℕ
 answerNumber Accepted = 0
@@ -18,4 +18,4 @@ answerNumber Full = 10
 answerNumber NotOpen = 11
 answerNumber WrongSort = 12
 answerNumber TooMuch = 13
-answerNumber Disagrees = 14
+answerNumber ResultDisagrees = 14

@@ -19,7 +19,7 @@ pub enum Answer {
     NotOpen,
     WrongSort,
     TooMuch,
-    Disagrees,
+    ResultDisagrees,
 }
 
 // 01's number of an answer.
@@ -41,6 +41,6 @@ pub fn number(answer: Answer) -> u8
         Answer::NotOpen => 11,
         Answer::WrongSort => 12,
         Answer::TooMuch => 13,
-        Answer::Disagrees => 14,
+        Answer::ResultDisagrees => 14,
     }
 }

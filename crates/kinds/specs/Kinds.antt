@@ -47,10 +47,11 @@ fitsBy (callback function) by mask h side d c = callsKnown h side c by mask func
 abbrev pub fits : Row → Header → ℕ → Known → Known → Bool
 fits row h side d c = fitsBy (row .goes) (row .by) (row .mask) h side d c
 
-abbrev server : ℕ
+-- 01 "Journal": side 1 is the server, 2 the client
+abbrev pub server : ℕ
 server = 1
 
-abbrev client : ℕ
+abbrev pub client : ℕ
 client = 2
 
 -- 01's table. Mask is 1 except for kinds 1 and 2, where it is 0
@@ -102,24 +103,24 @@ urbCompletion = record { kind = UrbCompletion; by = client; mask = 1; goes = cal
 abbrev pub urbCompletionNoData : Row
 urbCompletionNoData = record { kind = UrbCompletionNoData; by = client; mask = 1; goes = callback 0x102 }
 
--- its rows in its order: the first that fits is the kind
-abbrev pub completionKinds : List Row
-completionKinds = ioControlCompletion ∷ urbCompletion ∷ urbCompletionNoData ∷ []
+-- its rows in its order, of which the first that fits is the kind: from the last ones up, each list named by its first row
+abbrev pub kindsFrom15 : List Row
+kindsFrom15 = ioControlCompletion ∷ urbCompletion ∷ urbCompletionNoData ∷ []
 
-abbrev pub transferKinds : List Row
-transferKinds = transferInRequest ∷ transferOutRequest ∷ retractDevice ∷ completionKinds
+abbrev pub kindsFrom10 : List Row
+kindsFrom10 = transferInRequest ∷ transferOutRequest ∷ retractDevice ∷ kindsFrom15
 
-abbrev pub ioKinds : List Row
-ioKinds = ioControl ∷ internalIoControl ∷ transferKinds
+abbrev pub kindsFrom8 : List Row
+kindsFrom8 = ioControl ∷ internalIoControl ∷ kindsFrom10
 
-abbrev pub deviceKinds : List Row
-deviceKinds = cancelRequest ∷ registerRequestCallback ∷ ioKinds
+abbrev pub kindsFrom13 : List Row
+kindsFrom13 = cancelRequest ∷ registerRequestCallback ∷ kindsFrom8
 
-abbrev pub clientKinds : List Row
-clientKinds = channelCreatedByClient ∷ addVirtualChannel ∷ addDevice ∷ deviceKinds
+abbrev pub kindsFrom4 : List Row
+kindsFrom4 = channelCreatedByClient ∷ addVirtualChannel ∷ addDevice ∷ kindsFrom13
 
 abbrev pub kinds : List Row
-kinds = capabilityRequest ∷ capabilityResponse ∷ channelCreatedByServer ∷ clientKinds
+kinds = capabilityRequest ∷ capabilityResponse ∷ channelCreatedByServer ∷ kindsFrom4
 
 abbrev pub firstFitting : List Row → Header → ℕ → Known → Known → KindFound
 firstFitting [] h side d c = Nothing

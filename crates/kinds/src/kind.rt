@@ -18,7 +18,7 @@ use words::header::Header;
 use words::ids::Known;
 use words::kind::Kind;
 ghost use mathlib.Core.Path.{_≡_};
-ghost use Rattle.kinds.specs.Kinds.{goesTo, callsAt, callsKnown, firstFitting, kinds, clientKinds, deviceKinds, ioKinds, transferKinds, completionKinds};
+ghost use Rattle.kinds.specs.Kinds.{goesTo, callsAt, callsKnown, firstFitting, kinds, kindsFrom4, kindsFrom13, kindsFrom8, kindsFrom10, kindsFrom15};
 
 pub enum KindFound {
     Nothing,
@@ -104,7 +104,7 @@ pub fn kind_of(h: Header, side: u8, device: Known, callback: Known) -> KindFound
 
 // The rows from 4 on: what the client says of the channel and of its device.
 fn client_kind(h: Header, side: u8, device: Known, callback: Known) -> KindFound
-    ensures { λ r. ⌜ r ≡ firstFitting clientKinds h side device callback ⌝ }
+    ensures { λ r. ⌜ r ≡ firstFitting kindsFrom4 h side device callback ⌝ }
 {
     if calls(
         h,
@@ -141,7 +141,7 @@ fn client_kind(h: Header, side: u8, device: Known, callback: Known) -> KindFound
 
 // The rows from 13 on: what the server asks of the device.
 fn device_kind(h: Header, side: u8, device: Known, callback: Known) -> KindFound
-    ensures { λ r. ⌜ r ≡ firstFitting deviceKinds h side device callback ⌝ }
+    ensures { λ r. ⌜ r ≡ firstFitting kindsFrom13 h side device callback ⌝ }
 {
     if calls_known(
         h,
@@ -168,7 +168,7 @@ fn device_kind(h: Header, side: u8, device: Known, callback: Known) -> KindFound
 
 // The rows from 8 on: I/O controls.
 fn io_kind(h: Header, side: u8, device: Known, callback: Known) -> KindFound
-    ensures { λ r. ⌜ r ≡ firstFitting ioKinds h side device callback ⌝ }
+    ensures { λ r. ⌜ r ≡ firstFitting kindsFrom8 h side device callback ⌝ }
 {
     if calls_known(
         h,
@@ -195,7 +195,7 @@ fn io_kind(h: Header, side: u8, device: Known, callback: Known) -> KindFound
 
 // The rows from 10 on: transfers, and the retraction of the device.
 fn transfer_kind(h: Header, side: u8, device: Known, callback: Known) -> KindFound
-    ensures { λ r. ⌜ r ≡ firstFitting transferKinds h side device callback ⌝ }
+    ensures { λ r. ⌜ r ≡ firstFitting kindsFrom10 h side device callback ⌝ }
 {
     if calls_known(
         h,
@@ -232,7 +232,7 @@ fn transfer_kind(h: Header, side: u8, device: Known, callback: Known) -> KindFou
 
 // The rows from 15 on: what the client answers through the callback.
 fn completion_kind(h: Header, side: u8, callback: Known) -> KindFound
-    ensures { λ r. ⌜ r ≡ firstFitting completionKinds h side callback callback ⌝ }
+    ensures { λ r. ⌜ r ≡ firstFitting kindsFrom15 h side callback callback ⌝ }
 {
     if calls_known(
         h,

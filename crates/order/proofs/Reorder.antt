@@ -1,11 +1,12 @@
 -- Reordering the calls of a run, each channel's order kept, changes numbers and nothing else.
-use mathlib.Core.Path.{_≡_, refl, sym, ap, _∙_}
-use mathlib.Core.Bool.{Bool, true, false, true≢false}
+use native.Mathlib.Omega.{arith}
+use mathlib.Core.Path.{_≡_, refl, sym, ap, subst, _∙_}
+use mathlib.Core.Bool.{Bool, true, false, cond, true≢false}
 use mathlib.Core.Logic.{_≢_}
-use mathlib.Core.List.{List, [], _∷_, map}
+use mathlib.Core.List.{List, [], _∷_, _++_, map}
 use Prim.Native.Nat.{ℕ, zero, suc, _≤_, _<_}
-use lib.Dec.{eqb, ltb}
-use borrow.Author.Tests.{eq-eqb, eqb-true, ltb-true, ltb-false}
+use lib.Dec.{eqb}
+use borrow.Author.Tests.{eq-eqb, eqb-false, eqb-true, ne-eqb}
 use lib.ListN.{length, getD, set, length-set, length-map, replicate, length-replicate, getD-replicate, List·getD-eq-default, List·getD-map}
 use lib.Seq.{ext-getD}
 use Rattle.order.specs.Machine.{Machine, Tagged, calls, ends, givenOn, gives, keep, numbers, renG}
@@ -54,6 +55,9 @@ module _ (M : Machine) where
         (simp (length-map, length-ends))
         (λ d l. cc (state-same d, List·getD-map (M .renS f) (ends M k (replicate m (M .new)) xs) d (M .outside), M .outside-law f))
 
+nil-cons : {C : Type 0} {c : C} {cs : List C} → _≡_ {A = List C} [] (c ∷ cs) → ⊥
+nil-cons e = let z : _≡_ {A = ℕ} 0 (suc _) = ap length e in absurd (omega arith)
+
 as-many : {C : Type 0} (xs ys : List (Tagged C)) → Reordered xs ys → (d : ℕ) → length (calls d xs) ≡ length (calls d ys)
 as-many xs ys same d = ap length (same d)
 
@@ -63,9 +67,9 @@ reorder M m k xs ys h same =
     let (f, ren) = renumbering k xs ys h (as-many xs ys same) in
     (f, record { renumbers = ren; given = given-same M m k xs ys same f ren; table = table-same M m k xs ys same f ren })
 
--- 'Reordered' is neither too strong nor too weak: two neighbours on different channels may change places,
-pub neighbours : {C : Type 0} (x y : Tagged C) (xs : List (Tagged C)) → x .chan ≢ y .chan → Reordered (x ∷ y ∷ xs) (y ∷ x ∷ xs)
-neighbours x y xs ne d = go (eqb (x .chan) d) (eqb (y .chan) d) refl refl
+-- 'Reordered' is neither too strong nor too weak: two neighbours on different channels may change places, wherever they stand,
+front : {C : Type 0} (x y : Tagged C) (xs : List (Tagged C)) → x .chan ≢ y .chan → Reordered (x ∷ y ∷ xs) (y ∷ x ∷ xs)
+front x y xs ne d = go (eqb (x .chan) d) (eqb (y .chan) d) refl refl
   where
     go : (a b : Bool) → eqb (x .chan) d ≡ a → eqb (y .chan) d ≡ b
         → keep a (x .call) (keep b (y .call) (calls d xs)) ≡ keep b (y .call) (keep a (x .call) (calls d xs))
@@ -74,9 +78,27 @@ neighbours x y xs ne d = go (eqb (x .chan) d) (eqb (y .chan) d) refl refl
     go false true p q = refl
     go false false p q = refl
 
--- and two unequal calls of one channel may not
-pub own-order : {C : Type 0} (x y : Tagged C) (xs : List (Tagged C)) → x .chan ≡ y .chan → Reordered (x ∷ y ∷ xs) (y ∷ x ∷ xs) → x .call ≡ y .call
-own-order {C = C} x y xs e same = go (eqb (x .chan) (x .chan)) (eqb (y .chan) (x .chan)) (eq-eqb (x .chan) (x .chan) refl) (eq-eqb (y .chan) (x .chan) (sym e)) (same (x .chan))
+pub neighbours : {C : Type 0} (ws : List (Tagged C)) (x y : Tagged C) (xs : List (Tagged C)) → x .chan ≢ y .chan → Reordered (ws ++ (x ∷ y ∷ xs)) (ws ++ (y ∷ x ∷ xs))
+neighbours [] x y xs ne d = front x y xs ne d
+neighbours (w ∷ ws) x y xs ne d = ap (keep (eqb (w .chan) d) (w .call)) (neighbours ws x y xs ne d)
+
+-- what is behind the same calls is reordered where the whole is
+behind : {C : Type 0} (d : ℕ) (ws xs ys : List (Tagged C)) → calls d (ws ++ xs) ≡ calls d (ws ++ ys) → calls d xs ≡ calls d ys
+behind d [] xs ys e = e
+behind {C = C} d (w ∷ ws) xs ys e = behind d ws xs ys (go (eqb (w .chan) d) e)
+  where
+    tail : List C → List C
+    tail [] = []
+    tail (c ∷ cs) = cs
+
+    go : (a : Bool) → keep a (w .call) (calls d (ws ++ xs)) ≡ keep a (w .call) (calls d (ws ++ ys)) → calls d (ws ++ xs) ≡ calls d (ws ++ ys)
+    go true h = ap tail h
+    go false h = h
+
+-- and two unequal calls of one channel may not.
+pub own-order : {C : Type 0} (ws : List (Tagged C)) (x y : Tagged C) (xs : List (Tagged C)) → x .chan ≡ y .chan → Reordered (ws ++ (x ∷ y ∷ xs)) (ws ++ (y ∷ x ∷ xs)) → x .call ≡ y .call
+own-order {C = C} ws x y xs e same =
+    go (eqb (x .chan) (x .chan)) (eqb (y .chan) (x .chan)) (eq-eqb (x .chan) (x .chan) refl) (eq-eqb (y .chan) (x .chan) (sym e)) (behind (x .chan) ws (x ∷ y ∷ xs) (y ∷ x ∷ xs) (same (x .chan)))
   where
     head : List C → C
     head [] = x .call
@@ -86,3 +108,54 @@ own-order {C = C} x y xs e same = go (eqb (x .chan) (x .chan)) (eqb (y .chan) (x
     go true true p q h = ap head h
     go true false p q h = absurd (true≢false (sym q))
     go false b p q h = absurd (true≢false (sym p))
+
+-- the calls without the first one of channel d
+without : {C : Type 0} → ℕ → List (Tagged C) → List (Tagged C)
+without d [] = []
+without d (x ∷ xs) = cond (eqb (x .chan) d) xs (x ∷ without d xs)
+
+-- which leaves the calls of every other channel,
+others : {C : Type 0} (d e : ℕ) (xs : List (Tagged C)) → d ≢ e → calls e (without d xs) ≡ calls e xs
+unfolding without
+others d e [] ne = refl
+others d e (x ∷ xs) ne = go (eqb (x .chan) d) refl (others d e xs ne)
+  where
+    go : (a : Bool) → eqb (x .chan) d ≡ a → calls e (without d xs) ≡ calls e xs → calls e (cond a xs (x ∷ without d xs)) ≡ keep (eqb (x .chan) e) (x .call) (calls e xs)
+    go true p h = rw (ne-eqb (x .chan) e (λ q. ne (sym (eqb-true (x .chan) d p) ∙ q)))
+    go false p h = ap (keep (eqb (x .chan) e) (x .call)) h
+
+-- and of its own all but the first, by one call shorter
+own : {C : Type 0} (d : ℕ) (c : C) (cs : List C) (xs : List (Tagged C)) → calls d xs ≡ c ∷ cs → (calls d (without d xs) ≡ cs) × (length xs ≡ suc (length (without d xs)))
+unfolding without
+own d c cs [] e = absurd (nil-cons e)
+own {C = C} d c cs (x ∷ xs) e = go (eqb (x .chan) d) refl e (λ h. own d c cs xs h)
+  where
+    tail : List C → List C
+    tail [] = []
+    tail (b ∷ bs) = bs
+
+    go : (a : Bool) → eqb (x .chan) d ≡ a → keep a (x .call) (calls d xs) ≡ c ∷ cs
+        → (calls d xs ≡ c ∷ cs → (calls d (without d xs) ≡ cs) × (length xs ≡ suc (length (without d xs))))
+        → (calls d (cond a xs (x ∷ without d xs)) ≡ cs) × (length (x ∷ xs) ≡ suc (length (cond a xs (x ∷ without d xs))))
+    go true p h f = (ap tail h, refl)
+    go false p h f = let (q, l) = f h in (rw p q, ap suc l)
+
+-- Two orders of one set of calls have as many calls.
+pub same-length : {C : Type 0} (xs ys : List (Tagged C)) → Reordered xs ys → length xs ≡ length ys
+same-length [] [] same = refl
+same-length [] (y ∷ ys) same =
+    let h : calls (y .chan) (y ∷ ys) ≡ y .call ∷ calls (y .chan) ys = rw (eq-eqb (y .chan) (y .chan) refl) in absurd (nil-cons (same (y .chan) ∙ h))
+same-length {C = C} (x ∷ xs) ys same = ap suc (same-length xs (without (x .chan) ys) (λ d. go d (eqb (x .chan) d) refl)) ∙ sym (first .1)
+  where
+    here : calls (x .chan) ys ≡ x .call ∷ calls (x .chan) xs
+    here = sym (same (x .chan)) ∙ rw (eq-eqb (x .chan) (x .chan) refl)
+
+    first : (calls (x .chan) (without (x .chan) ys) ≡ calls (x .chan) xs) × (length ys ≡ suc (length (without (x .chan) ys)))
+    first = own (x .chan) (x .call) (calls (x .chan) xs) ys here
+
+    rest : (d : ℕ) → eqb (x .chan) d ≡ false → calls d xs ≡ calls d ys
+    rest d p = subst (λ (a : Bool). keep a (x .call) (calls d xs) ≡ calls d ys) p (same d)
+
+    go : (d : ℕ) (a : Bool) → eqb (x .chan) d ≡ a → calls d xs ≡ calls d (without (x .chan) ys)
+    go d true p = subst (λ e. calls e xs ≡ calls e (without (x .chan) ys)) (eqb-true (x .chan) d p) (sym (first .0))
+    go d false p = rest d p ∙ sym (others (x .chan) d ys (eqb-false (x .chan) d p))

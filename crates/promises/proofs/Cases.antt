@@ -3,6 +3,7 @@ use mathlib.Core.Path.{_≡_, refl}
 use mathlib.Core.List.{map}
 use Rattle.words.specs.Header.{headerOf}
 use Rattle.wire.specs.Message.{askedOf}
+use Rattle.wire.specs.Reading.{readingOf}
 use Rattle.urb.specs.TsUrb.{oneSizeOf, structureOf, tsUrbOf}
 use Rattle.wire.specs.Transfer.{outputOf, transferOf, transferWith}
 use Rattle.wire.specs.TransferInRequest.{transferInRequestAllowed, transferInRequestOf}
@@ -21,5 +22,5 @@ use Rattle.table.specs.Table.{closeOf, judgeOf}
 use Rattle.promises.specs.Cases.{Case, cases, outcome}
 
 pub cases-hold : map outcome cases ≡ map (λ (k : Case). k .shows) cases
-unfolding cases judgeOf closeOf payloadOf shownOf cutOf answerOf judgedEntry afterOf verdictOf hereOf stored admitted asksIn fromHeader decided opened taken firstFrom heldOf openCount headerOf askedOf transferInRequestOf transferInRequestAllowed transferOf transferWith outputOf tsUrbOf structureOf oneSizeOf urbCompletionOf withOutputOf completionOf completionWith completedOf cancelRequestOf
+unfolding cases judgeOf closeOf payloadOf shownOf cutOf answerOf judgedEntry afterOf verdictOf hereOf stored admitted asksIn fromHeader decided opened taken firstFrom heldOf openCount headerOf askedOf transferInRequestOf transferInRequestAllowed transferOf transferWith outputOf tsUrbOf structureOf oneSizeOf urbCompletionOf withOutputOf completionOf completionWith completedOf cancelRequestOf readingOf
 cases-hold = refl

@@ -36,7 +36,7 @@ module _ (t : Table) (x : Call) where
 
   placeless : Demand1 t x (unplaced t (x .channel) (sideBy (x .asks)) (stampBy (x .asks)))
   placeless = record {
-    refusal-1 = λ e. let q = ap answerNumber e in absurd (omega arith);
+    refusal-1 = λ e. let q = e in absurd (omega arith);
     refusal = λ n a. refl;
     entered = λ n. record {
       entry = refusedEntry (t .next) (x .channel) (sideBy (x .asks)) (stampBy (x .asks)) 0 answer.NoPlace;
@@ -55,7 +55,7 @@ module _ (t : Table) (x : Call) where
   said : (v : Verdict) → Proper v → Demand1 t x (judgedBy t (x .channel) (sideBy (x .asks)) (stampBy (x .asks)) v)
   unfolding afterOf answerOf judgedEntry
   said (Refused k a) h = record {
-    refusal-1 = λ e. let q = ap answerNumber e in absurd (omega (arith, h .0));
+    refusal-1 = λ e. let q = e in absurd (omega (arith, h .0));
     refusal = λ n p. ap (λ l. record { next = t .next + 1; channels = l }) (set-same (t .channels) (x .channel) blankChannel);
     entered = λ n. record {
       entry = refusedEntry (t .next) (x .channel) (sideBy (x .asks)) (stampBy (x .asks)) k a;
@@ -71,7 +71,7 @@ module _ (t : Table) (x : Call) where
     next = λ n. refl;
   }
   said (Accepted a) h = record {
-    refusal-1 = λ e. let q = ap answerNumber e in absurd (omega arith);
+    refusal-1 = λ e. let q = e in absurd (omega arith);
     refusal = λ n p. absurd (p refl);
     entered = λ n. record {
       entry = acceptedEntry (t .next) (x .channel) (sideBy (x .asks)) (stampBy (x .asks)) a;
@@ -89,7 +89,7 @@ module _ (t : Table) (x : Call) where
 
 closed : (t : Table) (channel stamp : ℕ) → Demand1 t (record { channel = channel; asks = closing stamp }) (moved t channel newChannel answer.Accepted (closeEntry (t .next) channel stamp (openCount (channelOf t channel .rows))))
 closed t channel stamp = record {
-  refusal-1 = λ e. let q = ap answerNumber e in absurd (omega arith);
+  refusal-1 = λ e. let q = e in absurd (omega arith);
   refusal = λ n p. absurd (p refl);
   entered = λ n. record {
     entry = closeEntry (t .next) channel stamp (openCount (channelOf t channel .rows));

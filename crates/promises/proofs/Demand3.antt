@@ -1,21 +1,22 @@
 -- Demand 3 of the real calls, by the theory of `order`.
 use Prim.Native.Nat.{ℕ, _+_, _≤_}
+use native.Mathlib.Omega.{arith}
 use mathlib.Core.Path.{_≡_, refl, sym, ap, _∙_}
 use mathlib.Core.List.{List, [], _∷_, map}
 use mathlib.Core.Bool.{Bool, true, false}
 use lib.Dec.{eqb}
-use lib.ListN.{length, replicate}
+use lib.ListN.{length, length-map, replicate}
 use Rattle.channel.specs.Rows.{newChannel}
 use Rattle.channel.specs.declared.channel.Channel.{Channel}
 use Rattle.table.specs.Table.{openOf}
 use Rattle.journal.specs.Calls.{after, Call}
 use Rattle.order.specs.Machine.{Given, givenOn, gives, keep, renG}
-use Rattle.order.proofs.Reorder.{reorder}
+use Rattle.order.proofs.Reorder.{reorder, same-length}
 use Rattle.promises.specs.Demand3.{Demand3, doneOn, SameCalls}
 use Rattle.promises.specs.Gate.{Gave, inside, outside, Place, renChannel, renPlace}
 use Rattle.promises.specs.Runs.{renDone, run, tagged}
 use Rattle.promises.proofs.Gate.{gate}
-use Rattle.promises.proofs.Runs.{after-is, doneOf, run-is}
+use Rattle.promises.proofs.Runs.{after-is, doneOf, next-is, run-is}
 
 -- what is done on a channel is what the machine's run gives there
 on-map : (d : ℕ) (gs : List (Given Gave)) → doneOn d (map doneOf gs) ≡ map doneOf (givenOn d gs)
@@ -44,9 +45,17 @@ ren-places : (f : ℕ → ℕ) (l : List Channel) → map (renPlace f) (map insi
 ren-places f [] = refl
 ren-places f (c ∷ l) = ap (λ r. inside (renChannel f c) ∷ r) (ren-places f l)
 
+-- the other order has as many calls
+as-many : (xs ys : List Call) → SameCalls xs ys → length xs ≡ length ys
+as-many xs ys same = let e = same-length (map tagged xs) (map tagged ys) same in simp length-map at e
+
+as-long : (k : ℕ) (xs ys : List Call) → k + length xs ≤ 4294967295 → SameCalls xs ys → k + length ys ≤ 4294967295
+as-long k xs ys h same = omega (arith, as-many xs ys same)
+
 -- For a table opened at k ≥ 1 and n calls with k + n ≤ 4,294,967,295, and any reordering that keeps each channel's calls in their order.
-pub demand-3 : (k : ℕ) (xs ys : List Call) → 1 ≤ k → k + length xs ≤ 4294967295 → k + length ys ≤ 4294967295 → SameCalls xs ys → (f : ℕ → ℕ) × Demand3 k xs ys f
-demand-3 k xs ys h hx hy same =
+pub demand-3 : (k : ℕ) (xs ys : List Call) → 1 ≤ k → k + length xs ≤ 4294967295 → SameCalls xs ys → (f : ℕ → ℕ) × Demand3 k xs ys f
+demand-3 k xs ys h hx same =
+    let hy = as-long k xs ys hx same in
     let (f, r) = reorder gate 8 k (map tagged xs) (map tagged ys) h same in (
       f,
       record {
@@ -59,6 +68,7 @@ demand-3 k xs ys h hx hy same =
           r .given d,
           ren-map f (givenOn d (gives gate k (replicate 8 (inside newChannel)) (map tagged xs))),
         );
+        next = let n = next-is (openOf k) xs h hx refl in let m = next-is (openOf k) ys h hy refl in omega (arith, n, m, as-many xs ys same);
         channels =
             sym (unplaced-same (after (openOf k) ys .channels))
             ∙ ap (map unplace) (after-is (openOf k) ys h hy refl ∙ r .table ∙ ap (map (renPlace f)) (sym (after-is (openOf k) xs h hx refl)) ∙ ren-places f (after (openOf k) xs .channels))

@@ -7,7 +7,8 @@ use mathlib.Core.Bool.{Bool, true, false, cond}
 use Rattle.words.specs.Kind.{kindNumber}
 use Rattle.words.specs.declared.kind.Kind.{Kind}
 use Rattle.words.specs.declared.kind.Kind.the-variants as kind
-use Rattle.wire.specs.Message.{askedOf, capabilityRequestAsked, capabilityResponseAsked, channelCreatedAsked, addVirtualChannelAsked, addDeviceAsked, cancelRequestAsked, registerRequestCallbackAsked, ioControlAsked, transferInRequestAsked, transferOutRequestAsked, retractDeviceAsked, ioControlCompletionAsked, urbCompletionAsked, urbCompletionNoDataAsked}
+use Rattle.wire.specs.Message.{askedOf, asksBy}
+use Rattle.wire.specs.Reading.{readingOf, capabilityRequestReading, capabilityResponseReading, channelCreatedReading, addVirtualChannelReading, addDeviceReading, cancelRequestReading, registerRequestCallbackReading, ioControlReading, transferInRequestReading, transferOutRequestReading, retractDeviceReading, ioControlCompletionReading, urbCompletionReading, urbCompletionNoDataReading}
 use Rattle.wire.specs.CapabilityRequest.{capabilityRequestOf, capabilityRequestAllowed}
 use Rattle.wire.specs.CapabilityResponse.{capabilityResponseOf, capabilityResponseAllowed}
 use Rattle.wire.specs.ChannelCreated.{channelCreatedOf, channelCreatedAllowed}
@@ -77,64 +78,64 @@ checked : (n : ℕ) (t : Bool) (a : Asked) → Kinded n a → Kinded n (cond t a
 checked n true a h = h
 checked n false a h = tt
 
-capability-request-kinded : (n : ℕ) → (NoCompletion n) → (r : CapabilityRequestRead) → Kinded n (capabilityRequestAsked r)
+capability-request-kinded : (n : ℕ) → (NoCompletion n) → (r : CapabilityRequestRead) → Kinded n (asksBy (capabilityRequestReading r))
 capability-request-kinded n h (capabilityRequest.Fits b) = checked n (capabilityRequestAllowed b) _ h
 capability-request-kinded n h (capabilityRequest.Fails f) = tt
 
-capability-response-kinded : (n : ℕ) → (NoCompletion n) → (r : CapabilityResponseRead) → Kinded n (capabilityResponseAsked r)
+capability-response-kinded : (n : ℕ) → (NoCompletion n) → (r : CapabilityResponseRead) → Kinded n (asksBy (capabilityResponseReading r))
 capability-response-kinded n h (capabilityResponse.Fits b) = checked n (capabilityResponseAllowed b) _ h
 capability-response-kinded n h (capabilityResponse.Fails f) = tt
 
-channel-created-kinded : (n : ℕ) → (NoCompletion n) → (r : ChannelCreatedRead) → Kinded n (channelCreatedAsked r)
+channel-created-kinded : (n : ℕ) → (NoCompletion n) → (r : ChannelCreatedRead) → Kinded n (asksBy (channelCreatedReading r))
 channel-created-kinded n h (channelCreated.Fits b) = checked n (channelCreatedAllowed b) _ h
 channel-created-kinded n h (channelCreated.Fails f) = tt
 
-add-virtual-channel-kinded : (n : ℕ) → (NoCompletion n) → (r : AddVirtualChannelRead) → Kinded n (addVirtualChannelAsked r)
+add-virtual-channel-kinded : (n : ℕ) → (NoCompletion n) → (r : AddVirtualChannelRead) → Kinded n (asksBy (addVirtualChannelReading r))
 add-virtual-channel-kinded n h addVirtualChannel.Fits = h
 add-virtual-channel-kinded n h (addVirtualChannel.Fails f) = tt
 
-add-device-kinded : (n : ℕ) → (NoCompletion n) → (r : AddDeviceRead) → Kinded n (addDeviceAsked r)
+add-device-kinded : (n : ℕ) → (NoCompletion n) → (r : AddDeviceRead) → Kinded n (asksBy (addDeviceReading r))
 add-device-kinded n h (addDevice.Fits b) = checked n (addDeviceAllowed b) _ h
 add-device-kinded n h (addDevice.Fails f) = tt
 
-cancel-request-kinded : (n : ℕ) → (n ≡ 13) → (r : CancelRequestRead) → Kinded n (cancelRequestAsked r)
+cancel-request-kinded : (n : ℕ) → (n ≡ 13) → (r : CancelRequestRead) → Kinded n (asksBy (cancelRequestReading r))
 cancel-request-kinded n h (cancelRequest.Fits b) = h
 cancel-request-kinded n h (cancelRequest.Fails f) = tt
 
-register-request-callback-kinded : (n : ℕ) → (NoCompletion n) → (r : RegisterRequestCallbackRead) → Kinded n (registerRequestCallbackAsked r)
+register-request-callback-kinded : (n : ℕ) → (NoCompletion n) → (r : RegisterRequestCallbackRead) → Kinded n (asksBy (registerRequestCallbackReading r))
 register-request-callback-kinded n h (registerRequestCallback.Fits b) = checked n (registerRequestCallbackAllowed b) _ h
 register-request-callback-kinded n h (registerRequestCallback.Fails f) = tt
 
-io-control-kinded : (n : ℕ) → (ioKind n ≡ true) → (r : IoControlRead) → Kinded n (ioControlAsked r)
+io-control-kinded : (n : ℕ) → (ioKind n ≡ true) → (r : IoControlRead) → Kinded n (asksBy (ioControlReading r))
 io-control-kinded n h (ioControl.Fits b) = h
 io-control-kinded n h (ioControl.Fails f) = tt
 
-transfer-in-request-kinded : (n : ℕ) → (n ≡ 10) → (r : TransferInRequestRead) → Kinded n (transferInRequestAsked r)
+transfer-in-request-kinded : (n : ℕ) → (n ≡ 10) → (r : TransferInRequestRead) → Kinded n (asksBy (transferInRequestReading r))
 transfer-in-request-kinded n h (transferInRequest.Fits b) = checked n (transferInRequestAllowed b) _ h
 transfer-in-request-kinded n h (transferInRequest.Fails f) = tt
 
-transfer-out-request-kinded : (n : ℕ) → (n ≡ 11) → (r : TransferOutRequestRead) → Kinded n (transferOutRequestAsked r)
+transfer-out-request-kinded : (n : ℕ) → (n ≡ 11) → (r : TransferOutRequestRead) → Kinded n (asksBy (transferOutRequestReading r))
 transfer-out-request-kinded n h (transferOutRequest.Fits b) = checked n (transferOutRequestAllowed b) _ h
 transfer-out-request-kinded n h (transferOutRequest.Fails f) = tt
 
-retract-device-kinded : (n : ℕ) → (NoCompletion n) → (r : RetractDeviceRead) → Kinded n (retractDeviceAsked r)
+retract-device-kinded : (n : ℕ) → (NoCompletion n) → (r : RetractDeviceRead) → Kinded n (asksBy (retractDeviceReading r))
 retract-device-kinded n h (retractDevice.Fits b) = checked n (retractDeviceAllowed b) _ h
 retract-device-kinded n h (retractDevice.Fails f) = tt
 
-io-control-completion-kinded : (n : ℕ) → (n ≡ 15) → (r : IoControlCompletionRead) → Kinded n (ioControlCompletionAsked r)
+io-control-completion-kinded : (n : ℕ) → (n ≡ 15) → (r : IoControlCompletionRead) → Kinded n (asksBy (ioControlCompletionReading r))
 io-control-completion-kinded n h (ioControlCompletion.Fits b) = h
 io-control-completion-kinded n h (ioControlCompletion.Fails f) = tt
 
-urb-completion-kinded : (n : ℕ) → (n ≡ 16) → (r : UrbCompletionRead) → Kinded n (urbCompletionAsked r)
+urb-completion-kinded : (n : ℕ) → (n ≡ 16) → (r : UrbCompletionRead) → Kinded n (asksBy (urbCompletionReading r))
 urb-completion-kinded n h (urbCompletion.Fits b) = checked n (urbCompletionAllowed b) _ h
 urb-completion-kinded n h (urbCompletion.Fails f) = tt
 
-urb-completion-no-data-kinded : (n : ℕ) → (n ≡ 17) → (r : UrbCompletionNoDataRead) → Kinded n (urbCompletionNoDataAsked r)
+urb-completion-no-data-kinded : (n : ℕ) → (n ≡ 17) → (r : UrbCompletionNoDataRead) → Kinded n (asksBy (urbCompletionNoDataReading r))
 urb-completion-no-data-kinded n h (urbCompletionNoData.Fits b) = h
 urb-completion-no-data-kinded n h (urbCompletionNoData.Fails f) = tt
 
 pub kinded : (k : Kind) (m : List ℕ) → Kinded (kindNumber k) (askedOf k m)
-unfolding askedOf
+unfolding askedOf readingOf
 kinded kind.CapabilityRequest m = capability-request-kinded 1 (λ l u. omega arith) (capabilityRequestOf m)
 kinded kind.CapabilityResponse m = capability-response-kinded 2 (λ l u. omega arith) (capabilityResponseOf m)
 kinded kind.ChannelCreatedByServer m = channel-created-kinded 3 (λ l u. omega arith) (channelCreatedOf m)

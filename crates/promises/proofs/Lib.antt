@@ -1,4 +1,6 @@
 pub mod Admitted
+pub mod Decided
+pub mod Blind
 pub mod Verdicts
 pub mod Demand1
 pub mod Stamp

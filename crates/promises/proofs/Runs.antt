@@ -149,3 +149,12 @@ after-is t (x ∷ xs) h k l =
     let n : calledBy t (x .channel) (x .asks) .table .next ≡ suc (t .next) = e .next ∙ add-one (t .next) in
     let r = after-is (called t x .table) xs (rw n (omega arith)) (rw n (omega arith)) (e .size ∙ l) in
     cc (r, n, e .table)
+
+-- each call of the run uses one number
+pub next-is : (t : Table) (xs : List Call) → 1 ≤ t .next → t .next + length xs ≤ 4294967295 → length (t .channels) ≡ 8 → after t xs .next ≡ t .next + length xs
+next-is t [] h k l = omega arith
+next-is t (x ∷ xs) h k l =
+    let e = tied t (x .channel) (x .asks) (left (t .next) h (omega arith)) l in
+    let n : calledBy t (x .channel) (x .asks) .table .next ≡ suc (t .next) = e .next ∙ add-one (t .next) in
+    let r = next-is (called t x .table) xs (rw n (omega arith)) (rw n (omega arith)) (e .size ∙ l) in
+    omega (arith, r, n)

@@ -9,28 +9,23 @@ use lib.ListN.{getD, set, replicate}
 use lib.Dec.{ltb, eqb}
 use borrow.Author.Tests.{eqb-true, eqb-false}
 use Rattle.words.proofs.Steps.{either}
+use Rattle.words.specs.declared.ids.Known.the-variants as known
 use Rattle.words.specs.declared.ids.RequestId.{RequestId}
 use Rattle.words.specs.declared.kind.Kind.{Kind}
-use Rattle.wire.specs.Assigned.{Assigned, Given}
+use Rattle.wire_laws.specs.Assigned.{Assigned, Given}
 use Rattle.wire.specs.declared.message.Asked.{Asked}
 use Rattle.wire.specs.declared.message.Asked.the-variants as asks
-use Rattle.wire.specs.declared.message.IoCompleted.{IoCompleted}
 use Rattle.wire.specs.declared.message.Request.{Request}
-use Rattle.wire.specs.declared.message.UrbCompleted.{UrbCompleted}
-use Rattle.wire.proofs.Assigned.{assigned}
+use Rattle.wire_laws.proofs.Assigned.{assigned}
 use Rattle.channel.specs.Rows.{freeRow, heldOf, holds, holdsBy, lowestOf, newChannel, withRow}
 use Rattle.channel.specs.declared.row.Open.{Open}
 use Rattle.channel.specs.declared.row.Row.{Row}
 use Rattle.channel.specs.declared.row.Sort.{Sort}
 use Rattle.channel.specs.declared.row.Sort.the-variants.{Free, Io, In, Out}
 use Rattle.channel.specs.declared.channel.Channel.{Channel}
-use Rattle.channel.specs.declared.channel.Found.{Found}
-use Rattle.channel.specs.declared.channel.Found.the-variants as found
-use Rattle.channel.specs.declared.channel.Held.{Held}
 use Rattle.channel.specs.declared.channel.Held.the-variants as held
 use Rattle.channel.proofs.Laws.{all-alike, nothing-held, set-read}
-use Rattle.rules.specs.Request.{opened, taken, transferOutDecided}
-use Rattle.rules.specs.Completion.{cancelled, ioCompleted, noDataCompleted, resultAgrees, urbClosed, urbCompleted}
+use Rattle.rules.specs.Request.{opened}
 use Rattle.rules.specs.Decide.{decided}
 use Rattle.rules.specs.declared.verdict.Act.{Act}
 use Rattle.rules.specs.declared.verdict.Act.the-variants as act
@@ -46,12 +41,13 @@ use Rattle.table.specs.declared.table.Judged.{Judged}
 use Rattle.table.specs.declared.table.Table.{Table}
 use Rattle.journal.specs.Calls.{after, Asks, Call, called, calledBy, closing, judging}
 use Rattle.promises.proofs.Admitted.{admitted-has}
+use Rattle.promises.proofs.Decided.{cancelled-has, io-has, no-data-has, out-has, taken-has, urb-has}
 use Rattle.promises.specs.Sound.{Numbered, rowOf, Sound, SoundChannel}
 
 -- What an act asks of the channel that it is done to, so that it stays sound: n is the call's number.
 abbrev Fits : Channel → ℕ → Act → Type 0
 Fits c n act.Keep = Unit {0}
-Fits c n (act.Device id ms) = 4 ≤ id .0
+Fits c n (act.Device id ms) = Given (known.Is id)
 Fits c n (act.Callback known) = Given known
 Fits c n (act.Take at row) = Numbered (n + 1) (row .sort) × ((id : RequestId) → holds id row ≡ true → (i : ℕ) → holds id (rowOf c i) ≡ false)
 Fits c n (act.Free at) = Unit {0}
@@ -65,49 +61,9 @@ names-it : (r : Request) (id : RequestId) → eqb (r .request .0) (id .0) ≡ tr
 names-it r id e = ap (λ (x : ℕ). record { 0 = x }) (eqb-true (r .request .0) (id .0) e)
 
 -- a request that is given a row: its id is open nowhere else
-taken-safe : (c : Channel) (n : ℕ) (k : Kind) (r : Request) (s : Sort) → Numbered (n + 1) s → ((id : RequestId) → holdsBy id s ≡ true → r .request ≡ id)
-    → (here : Held) → heldOf c (r .request) ≡ here → (free : Found) → Safe c n (taken k r s here free)
-unfolding taken
-taken-safe c n k r s num nm held.Nothing e (found.At at) =
-    (num, λ id h i. subst (λ q. holds q (rowOf c i) ≡ false) (nm id h) (nothing-held c (r .request) e i))
-taken-safe c n k r s num nm held.Nothing e found.Nothing = tt
-taken-safe c n k r s num nm (held.Io at o) e free = tt
-taken-safe c n k r s num nm (held.In at o) e free = tt
-taken-safe c n k r s num nm (held.Out at o) e free = tt
-
-out-safe : (c : Channel) (n : ℕ) (k : Kind) (r : Request) (jitter : ℕ) → 1 ≤ n → Safe c n (transferOutDecided k r n jitter (heldOf c (r .request)) (lowestOf c))
-unfolding opened
-out-safe c n k r jitter h =
-    either (Safe c n) (r .noack) _ _ (λ e. either (Safe c n) (eqb jitter 0) _ _ (λ f. tt) (λ f. tt))
-    (λ e. taken-safe c n k r (Out (opened r n)) (h, omega arith) (names-it r) (heldOf c (r .request)) refl (lowestOf c))
-
-io-safe : (c : Channel) (n : ℕ) (k : Kind) (d : IoCompleted) (here : Held) → Safe c n (ioCompleted k d here)
-io-safe c n k d held.Nothing = tt
-io-safe c n k d (held.Io at o) =
-    either (Safe c n) (ltb (o .size) (d .size)) _ _ (λ e. tt) (λ e. either (Safe c n) (resultAgrees d o) _ _ (λ f. tt) (λ f. tt))
-io-safe c n k d (held.In at o) = tt
-io-safe c n k d (held.Out at o) = tt
-
-closed-safe : (c : Channel) (n : ℕ) (k : Kind) (d : UrbCompleted) (most at : ℕ) (o : Open) → Safe c n (urbClosed k d most at o)
-closed-safe c n k d most at o = either (Safe c n) (ltb most (d .size)) _ _ (λ e. tt) (λ e. tt)
-
-urb-safe : (c : Channel) (n : ℕ) (k : Kind) (d : UrbCompleted) (here : Held) → Safe c n (urbCompleted k d here)
-urb-safe c n k d held.Nothing = tt
-urb-safe c n k d (held.Io at o) = tt
-urb-safe c n k d (held.In at o) = closed-safe c n k d (o .size) at o
-urb-safe c n k d (held.Out at o) = tt
-
-no-data-safe : (c : Channel) (n : ℕ) (k : Kind) (d : UrbCompleted) (here : Held) → Safe c n (noDataCompleted k d here)
-no-data-safe c n k d held.Nothing = tt
-no-data-safe c n k d (held.Io at o) = tt
-no-data-safe c n k d (held.In at o) = closed-safe c n k d 0 at o
-no-data-safe c n k d (held.Out at o) = closed-safe c n k d (o .size) at o
-
-cancelled-safe : (c : Channel) (n : ℕ) (k : Kind) (id : RequestId) (here : Held) → Safe c n (cancelled k id here)
-cancelled-safe c n k id held.Nothing = tt
-cancelled-safe c n k id (held.Io at o) = tt
-cancelled-safe c n k id (held.In at o) = tt
-cancelled-safe c n k id (held.Out at o) = tt
+alone : (c : Channel) (r : Request) (s : Sort) → ((id : RequestId) → holdsBy id s ≡ true → r .request ≡ id) → heldOf c (r .request) ≡ held.Nothing
+    → (id : RequestId) → holds id (record { sort = s }) ≡ true → (i : ℕ) → holds id (rowOf c i) ≡ false
+alone c r s nm e id h i = subst (λ q. holds q (rowOf c i) ≡ false) (nm id h) (nothing-held c (r .request) e i)
 
 decided-safe : (c : Channel) (n : ℕ) (k : Kind) (a : Asked) → 1 ≤ n → Assigned a → Safe c n (decided k a n (c .jitter) (seenOf c a))
 unfolding decided hereOf opened
@@ -117,15 +73,16 @@ decided-safe c n k asks.Step h g = tt
 decided-safe c n k (asks.Device id ms) h g = g
 decided-safe c n k (asks.Callback id) h g = g
 decided-safe c n k (asks.IoControl r) h g =
-    taken-safe c n k r (Io (opened r n)) (h, omega arith) (names-it r) (heldOf c (r .request)) refl (lowestOf c)
+    taken-has (Safe c n) k (λ b q. tt) r (Io (opened r n)) (heldOf c (r .request)) (lowestOf c) (λ at e. ((h, omega arith), alone c r (Io (opened r n)) (names-it r) e))
 decided-safe c n k (asks.TransferIn r) h g =
-    taken-safe c n k r (In (opened r n)) (h, omega arith) (names-it r) (heldOf c (r .request)) refl (lowestOf c)
-decided-safe c n k (asks.TransferOut r) h g = out-safe c n k r (c .jitter) h
-decided-safe c n k (asks.Cancel id) h g = cancelled-safe c n k id (heldOf c id)
+    taken-has (Safe c n) k (λ b q. tt) r (In (opened r n)) (heldOf c (r .request)) (lowestOf c) (λ at e. ((h, omega arith), alone c r (In (opened r n)) (names-it r) e))
+decided-safe c n k (asks.TransferOut r) h g =
+    out-has (Safe c n) k (λ b q. tt) r n (c .jitter) (heldOf c (r .request)) (lowestOf c) tt (λ at e. ((h, omega arith), alone c r (Out (opened r n)) (names-it r) e))
+decided-safe c n k (asks.Cancel id) h g = cancelled-has (Safe c n) k (λ b q. tt) id (heldOf c id) tt (λ at o e. tt) (λ at o e. tt) (λ at o e. tt)
 decided-safe c n k asks.Retract h g = tt
-decided-safe c n k (asks.IoCompletion d) h g = io-safe c n k d (heldOf c (d .request))
-decided-safe c n k (asks.UrbCompletion d) h g = urb-safe c n k d (heldOf c (d .request))
-decided-safe c n k (asks.UrbCompletionNoData d) h g = no-data-safe c n k d (heldOf c (d .request))
+decided-safe c n k (asks.IoCompletion d) h g = io-has (Safe c n) k (λ b q. tt) d (heldOf c (d .request)) (λ at o e. tt)
+decided-safe c n k (asks.UrbCompletion d) h g = urb-has (Safe c n) k (λ b q. tt) d (heldOf c (d .request)) (λ at o e. tt)
+decided-safe c n k (asks.UrbCompletionNoData d) h g = no-data-has (Safe c n) k (λ b q. tt) d (heldOf c (d .request)) (λ at o e. tt) (λ at o e. tt)
 
 -- what is admitted asks only for interfaces that may be given
 abbrev Learns : Admitted → Type 0

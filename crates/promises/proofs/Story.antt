@@ -5,17 +5,13 @@ use mathlib.Core.Path.{_≡_, refl, sym, ap, subst, _∙_}
 use mathlib.Core.List.{List}
 use mathlib.Core.Bool.{Bool, true, false, false≢true, _||_}
 use lib.ListN.{getD}
-use lib.Dec.{eqb, ltb}
+use lib.Dec.{eqb}
 use borrow.Author.Tests.{eqb-true}
-use Rattle.words.proofs.Steps.{either}
 use Rattle.words.specs.Kind.{kindNumber}
 use Rattle.words.specs.declared.ids.RequestId.{RequestId}
 use Rattle.words.specs.declared.kind.Kind.{Kind}
 use Rattle.wire.specs.declared.message.Asked.{Asked}
 use Rattle.wire.specs.declared.message.Asked.the-variants as asks
-use Rattle.wire.specs.declared.message.IoCompleted.{IoCompleted}
-use Rattle.wire.specs.declared.message.Request.{Request}
-use Rattle.wire.specs.declared.message.UrbCompleted.{UrbCompleted}
 use Rattle.kinds.specs.Kinds.{kinds}
 use Rattle.channel.specs.Rows.{findOf, freeRow, heldAt, heldBy, heldOf, holds, lowestOf}
 use Rattle.channel.specs.declared.channel.Channel.{Channel}
@@ -27,8 +23,7 @@ use Rattle.channel.specs.declared.row.Open.{Open}
 use Rattle.channel.specs.declared.row.Sort.{Sort}
 use Rattle.channel.specs.declared.row.Sort.the-variants.{Free, Io, In, Out}
 use Rattle.channel.proofs.Laws.{first-there}
-use Rattle.rules.specs.Request.{opened, taken, transferOutDecided}
-use Rattle.rules.specs.Completion.{cancelled, ioCompleted, noDataCompleted, resultAgrees, urbCompleted}
+use Rattle.rules.specs.Request.{opened}
 use Rattle.rules.specs.Decide.{decided}
 use Rattle.rules.specs.declared.verdict.Act.{Act}
 use Rattle.rules.specs.declared.verdict.Act.the-variants as act
@@ -42,6 +37,7 @@ use Rattle.turn.specs.declared.admit.Admitted.the-variants as admit
 use Rattle.promises.specs.Names.{inKind, ioKind, mayClose, outKind}
 use Rattle.promises.specs.Sound.{rowOf}
 use Rattle.promises.proofs.Admitted.{admitted-has}
+use Rattle.promises.proofs.Decided.{cancelled-has, io-has, no-data-has, out-has, taken-has, urb-has}
 use Rattle.promises.proofs.Kinded.{Kinded, kinded, NoCompletion}
 
 -- the kinds of request that a row's sort is for
@@ -122,26 +118,10 @@ io-low n e = go (eqb n 8) (eqb n 9) (λ h. eqb-true n 8 h) (λ h. eqb-true n 9 h
     go false true p q h = let z = q refl in omega arith
     go false false p q h = let z : _≡_ {A = ℕ} 0 1 = cc in absurd (omega arith)
 
-taken-story : (c : Channel) (n : ℕ) (k : Kind) (r : Request) (s : Sort) → kindNumber k ≤ 14 → Opens n (r .request .0) (kindNumber k) s → (here : Held) (w : Found) → Story c n (taken k r s here w)
-unfolding taken
-taken-story c n k r s l o held.Nothing (found.At at) = (refl, low (kindNumber k) l, o)
-taken-story c n k r s l o held.Nothing found.Nothing = tt
-taken-story c n k r s l o (held.Io at p) w = tt
-taken-story c n k r s l o (held.In at p) w = tt
-taken-story c n k r s l o (held.Out at p) w = tt
-
 -- a completion, or a cancel, closes the request of the row that was found
-io-closes : (c : Channel) (at : ℕ) (o : Open) (id : RequestId) (kind : ℕ) → ((k : ℕ) → ioKind k ≡ true → mayClose kind k ≡ true) → (rowOf c at .sort ≡ Io o) × (o .request .0 ≡ id .0)
-    → Closes (o .number) (id .0) kind (rowOf c at .sort)
-io-closes c at o id kind m h = subst (Closes (o .number) (id .0) kind) (sym (h .0)) (record { open′ = o; is = refl; number = refl; id = h .1; may = m })
-
-in-closes : (c : Channel) (at : ℕ) (o : Open) (id : RequestId) (kind : ℕ) → ((k : ℕ) → inKind k ≡ true → mayClose kind k ≡ true) → (rowOf c at .sort ≡ In o) × (o .request .0 ≡ id .0)
-    → Closes (o .number) (id .0) kind (rowOf c at .sort)
-in-closes c at o id kind m h = subst (Closes (o .number) (id .0) kind) (sym (h .0)) (record { open′ = o; is = refl; number = refl; id = h .1; may = m })
-
-out-closes : (c : Channel) (at : ℕ) (o : Open) (id : RequestId) (kind : ℕ) → ((k : ℕ) → outKind k ≡ true → mayClose kind k ≡ true) → (rowOf c at .sort ≡ Out o) × (o .request .0 ≡ id .0)
-    → Closes (o .number) (id .0) kind (rowOf c at .sort)
-out-closes c at o id kind m h = subst (Closes (o .number) (id .0) kind) (sym (h .0)) (record { open′ = o; is = refl; number = refl; id = h .1; may = m })
+row-closes : (c : Channel) (at : ℕ) (s : Sort) (o : Open) (id : RequestId) (kind : ℕ) → Is s o → ((k : ℕ) → kindFor s k ≡ true → mayClose kind k ≡ true)
+    → (rowOf c at .sort ≡ s) × (o .request .0 ≡ id .0) → Closes (o .number) (id .0) kind (rowOf c at .sort)
+row-closes c at s o id kind q m h = subst (Closes (o .number) (id .0) kind) (sym (h .0)) (record { open′ = o; is = q; number = refl; id = h .1; may = m })
 
 or-left : (a b : Bool) → a ≡ true → (a || b) ≡ true
 or-left true b e = refl
@@ -151,40 +131,9 @@ or-right : (a b : Bool) → b ≡ true → (a || b) ≡ true
 or-right true b e = refl
 or-right false b e = e
 
-io-story : (c : Channel) (n : ℕ) (k : Kind) (d : IoCompleted) → kindNumber k ≡ 15 → (here : Held) → Stands c (d .request) here → Story c n (ioCompleted k d here)
-io-story c n k d e held.Nothing h = tt
-io-story c n k d e (held.Io at o) h =
-    either (Story c n) (ltb (o .size) (d .size)) _ _ (λ p. tt)
-    (λ p. either (Story c n) (resultAgrees d o) _ _ (λ q. io-closes c at o (d .request) (kindNumber k) (λ j m. rw e m) h) (λ q. tt))
-io-story c n k d e (held.In at o) h = tt
-io-story c n k d e (held.Out at o) h = tt
-
-urb-story : (c : Channel) (n : ℕ) (k : Kind) (d : UrbCompleted) → kindNumber k ≡ 16 → (here : Held) → Stands c (d .request) here → Story c n (urbCompleted k d here)
-urb-story c n k d e held.Nothing h = tt
-urb-story c n k d e (held.Io at o) h = tt
-urb-story c n k d e (held.In at o) h =
-    either (Story c n) (ltb (o .size) (d .size)) _ _ (λ p. tt) (λ p. in-closes c at o (d .request) (kindNumber k) (λ j m. rw e m) h)
-urb-story c n k d e (held.Out at o) h = tt
-
-no-data-story : (c : Channel) (n : ℕ) (k : Kind) (d : UrbCompleted) → kindNumber k ≡ 17 → (here : Held) → Stands c (d .request) here → Story c n (noDataCompleted k d here)
-no-data-story c n k d e held.Nothing h = tt
-no-data-story c n k d e (held.Io at o) h = tt
-no-data-story c n k d e (held.In at o) h =
-    either (Story c n) (ltb 0 (d .size)) _ _ (λ p. tt) (λ p. in-closes c at o (d .request) (kindNumber k) (λ j m. rw e (or-left (inKind j) (outKind j) m)) h)
-no-data-story c n k d e (held.Out at o) h =
-    either (Story c n) (ltb (o .size) (d .size)) _ _ (λ p. tt) (λ p. out-closes c at o (d .request) (kindNumber k) (λ j m. rw e (or-right (inKind j) (outKind j) m)) h)
-
-cancelled-story : (c : Channel) (n : ℕ) (k : Kind) (id : RequestId) → kindNumber k ≡ 13 → (here : Held) → Stands c id here → Story c n (cancelled k id here)
-cancelled-story c n k id e held.Nothing h = (refl, low (kindNumber k) (omega arith))
-cancelled-story c n k id e (held.Io at o) h = io-closes c at o id (kindNumber k) (λ j m. rw e (or-left (ioKind j) _ m)) h
-cancelled-story c n k id e (held.In at o) h = in-closes c at o id (kindNumber k) (λ j m. rw e (or-right (ioKind j) _ (or-left (inKind j) (outKind j) m))) h
-cancelled-story c n k id e (held.Out at o) h = out-closes c at o id (kindNumber k) (λ j m. rw e (or-right (ioKind j) _ (or-right (inKind j) (outKind j) m))) h
-
-out-story : (c : Channel) (n : ℕ) (k : Kind) (r : Request) (jitter : ℕ) → kindNumber k ≡ 11 → (here : Held) (w : Found) → Story c n (transferOutDecided k r n jitter here w)
-unfolding opened
-out-story c n k r jitter e here w =
-    either (Story c n) (r .noack) _ _ (λ p. either (Story c n) (eqb jitter 0) _ _ (λ q. tt) (λ q. (refl, low 12 (omega arith))))
-    (λ p. taken-story c n k r (Out (opened r n)) (omega arith) (record { open′ = opened r n; is = refl; number = refl; id = refl; fits = rw e }) here w)
+-- what was found under an id, where it was found to be this
+found-there : (c : Channel) (id : RequestId) (here : Held) → heldOf c id ≡ here → Stands c id here
+found-there c id here e = subst (Stands c id) e (stands c id)
 
 decided-story : (c : Channel) (n : ℕ) (k : Kind) (a : Asked) → Kinded (kindNumber k) a → Story c n (decided k a n (c .jitter) (seenOf c a))
 unfolding decided hereOf opened
@@ -194,15 +143,25 @@ decided-story c n k asks.Step h = (refl, h)
 decided-story c n k (asks.Device id ms) h = (refl, h)
 decided-story c n k (asks.Callback id) h = (refl, h)
 decided-story c n k (asks.IoControl r) h =
-    taken-story c n k r (Io (opened r n)) (io-low (kindNumber k) h) (record { open′ = opened r n; is = refl; number = refl; id = refl; fits = h }) (heldOf c (r .request)) (lowestOf c)
+    taken-has (Story c n) k (λ b q. tt) r (Io (opened r n)) (heldOf c (r .request)) (lowestOf c) (λ at e. (refl, low (kindNumber k) (io-low (kindNumber k) h), (record { open′ = opened r n; is = refl; number = refl; id = refl; fits = h })))
 decided-story c n k (asks.TransferIn r) h =
-    taken-story c n k r (In (opened r n)) (omega arith) (record { open′ = opened r n; is = refl; number = refl; id = refl; fits = rw h }) (heldOf c (r .request)) (lowestOf c)
-decided-story c n k (asks.TransferOut r) h = out-story c n k r (c .jitter) h (heldOf c (r .request)) (lowestOf c)
-decided-story c n k (asks.Cancel id) h = cancelled-story c n k id h (heldOf c id) (stands c id)
+    taken-has (Story c n) k (λ b q. tt) r (In (opened r n)) (heldOf c (r .request)) (lowestOf c) (λ at e. (refl, low (kindNumber k) (omega arith), (record { open′ = opened r n; is = refl; number = refl; id = refl; fits = rw h })))
+decided-story c n k (asks.TransferOut r) h =
+    out-has (Story c n) k (λ b q. tt) r n (c .jitter) (heldOf c (r .request)) (lowestOf c) (refl, low 12 (omega arith)) (λ at e. (refl, low (kindNumber k) (omega arith), (record { open′ = opened r n; is = refl; number = refl; id = refl; fits = rw h })))
+decided-story c n k (asks.Cancel id) h =
+    cancelled-has (Story c n) k (λ b q. tt) id (heldOf c id) (refl, low (kindNumber k) (omega arith))
+    (λ at o e. row-closes c at (Io o) o id (kindNumber k) refl (λ j m. rw h (or-left (ioKind j) _ m)) (found-there c id _ e))
+    (λ at o e. row-closes c at (In o) o id (kindNumber k) refl (λ j m. rw h (or-right (ioKind j) _ (or-left (inKind j) (outKind j) m))) (found-there c id _ e))
+    (λ at o e. row-closes c at (Out o) o id (kindNumber k) refl (λ j m. rw h (or-right (ioKind j) _ (or-right (inKind j) (outKind j) m))) (found-there c id _ e))
 decided-story c n k asks.Retract h = (refl, h)
-decided-story c n k (asks.IoCompletion d) h = io-story c n k d h (heldOf c (d .request)) (stands c (d .request))
-decided-story c n k (asks.UrbCompletion d) h = urb-story c n k d h (heldOf c (d .request)) (stands c (d .request))
-decided-story c n k (asks.UrbCompletionNoData d) h = no-data-story c n k d h (heldOf c (d .request)) (stands c (d .request))
+decided-story c n k (asks.IoCompletion d) h =
+    io-has (Story c n) k (λ b q. tt) d (heldOf c (d .request)) (λ at o e. row-closes c at (Io o) o (d .request) (kindNumber k) refl (λ j m. rw h m) (found-there c (d .request) _ e))
+decided-story c n k (asks.UrbCompletion d) h =
+    urb-has (Story c n) k (λ b q. tt) d (heldOf c (d .request)) (λ at o e. row-closes c at (In o) o (d .request) (kindNumber k) refl (λ j m. rw h m) (found-there c (d .request) _ e))
+decided-story c n k (asks.UrbCompletionNoData d) h =
+    no-data-has (Story c n) k (λ b q. tt) d (heldOf c (d .request))
+    (λ at o e. row-closes c at (In o) o (d .request) (kindNumber k) refl (λ j m. rw h (or-left (inKind j) (outKind j) m)) (found-there c (d .request) _ e))
+    (λ at o e. row-closes c at (Out o) o (d .request) (kindNumber k) refl (λ j m. rw h (or-right (inKind j) (outKind j) m)) (found-there c (d .request) _ e))
 
 -- ---- from the message
 abbrev Asking : Admitted → Type 0

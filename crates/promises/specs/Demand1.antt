@@ -3,7 +3,6 @@ use Prim.Native.Nat.{ℕ, _+_, _≤_}
 use mathlib.Core.Path.{_≡_}
 use mathlib.Core.Logic.{_≢_}
 use Rattle.answers.specs.Answer.{answerNumber}
-use Rattle.answers.specs.declared.answer.Answer.the-variants.{Accepted, NoNumber}
 use Rattle.table.specs.Table.{numbered}
 use Rattle.table.specs.declared.entry.Entry.{Entry}
 use Rattle.table.specs.declared.entry.Noted.the-variants.{Nothing, Is}
@@ -23,15 +22,15 @@ pub record Entered (t : Table) (x : Call) (j : Judged) : Type 0 where
   pub side : entry .side ≡ sideBy (x .asks)
   pub stamp : entry .stamp ≡ stampBy (x .asks)
   -- in a refused entry request, cause and size are 0
-  pub refused : j .answer ≢ Accepted → (entry .request ≡ 0) × (entry .cause ≡ 0) × (entry .size ≡ 0)
+  pub refused : answerNumber (j .answer) ≢ 0 → (entry .request ≡ 0) × (entry .cause ≡ 0) × (entry .size ≡ 0)
   -- the kind is 0 for answers 2 to 5
   pub kindless : 2 ≤ answerNumber (j .answer) → answerNumber (j .answer) ≤ 5 → entry .kind ≡ 0
 
 pub record Demand1 (t : Table) (x : Call) (j : Judged) : Type 0 where
   -- with answer 1 there is no entry, and the table is the very same
-  pub refusal-1 : j .answer ≡ NoNumber → (j .entry ≡ Nothing) × (j .table ≡ t)
+  pub refusal-1 : answerNumber (j .answer) ≡ 1 → (j .entry ≡ Nothing) × (j .table ≡ t)
   -- any other refused call changes nothing but the next number, which is one higher
-  pub refusal : j .answer ≢ NoNumber → j .answer ≢ Accepted → j .table ≡ numbered t
+  pub refusal : answerNumber (j .answer) ≢ 1 → answerNumber (j .answer) ≢ 0 → j .table ≡ numbered t
   -- every call but those answered 1 gives one entry and uses one number
-  pub entered : j .answer ≢ NoNumber → Entered t x j
-  pub next : j .answer ≢ NoNumber → j .table .next ≡ t .next + 1
+  pub entered : answerNumber (j .answer) ≢ 1 → Entered t x j
+  pub next : answerNumber (j .answer) ≢ 1 → j .table .next ≡ t .next + 1

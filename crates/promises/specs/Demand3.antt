@@ -26,5 +26,6 @@ pub record Demand3 (k : ℕ) (xs ys : List Call) (f : ℕ → ℕ) : Type 0 wher
   pub renumbers : Renumbers k (map tagged xs) (map tagged ys) f
   -- on every channel, those above 7 too, each call gets the same answer, payload and entry, the entry's number and cause sent through f
   pub given : (d : ℕ) → doneOn d (run (openOf k) ys) ≡ map (renDone f) (doneOn d (run (openOf k) xs))
-  -- each channel ends in the same phase with the same device, callback, NoAck and rows, their numbers sent through f
+  -- the next number is the same, and each channel ends in the same phase with the same device, callback, NoAck and rows, their numbers sent through f
+  pub next : after (openOf k) ys .next ≡ after (openOf k) xs .next
   pub channels : after (openOf k) ys .channels ≡ map (renChannel f) (after (openOf k) xs .channels)

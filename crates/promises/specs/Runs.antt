@@ -1,19 +1,14 @@
--- A run of the real calls, each with what it gives, and what demand 3 says of two orders of one run.
-use Prim.Native.Nat.{ℕ, suc, _+_, _≤_}
-use mathlib.Core.Path.{_≡_}
-use mathlib.Core.List.{List, [], _∷_, map}
-use lib.ListN.{length}
+-- A run of the real calls, each with what it gives, and its journal numbers sent through f.
+use Prim.Native.Nat.{ℕ}
+use mathlib.Core.List.{List, [], _∷_}
 use Rattle.answers.specs.declared.answer.Answer.{Answer}
-use Rattle.table.specs.Table.{openOf}
 use Rattle.table.specs.declared.entry.Entry.{Entry}
 use Rattle.table.specs.declared.entry.Noted.{Noted}
 use Rattle.table.specs.declared.entry.Noted.the-variants.{Nothing, Is}
 use Rattle.table.specs.declared.table.Table.{Table}
-use Rattle.journal.specs.Calls.{after, Asks, Call, called}
+use Rattle.journal.specs.Calls.{Asks, Call, called}
 use Rattle.order.specs.Machine.{Tagged}
-use Rattle.order.specs.Reorder.{Reordered, Renumbers}
 use Rattle.promises.specs.Cases.{payloadBy}
-use Rattle.promises.specs.Gate.{renChannel}
 
 -- what a call gives: its channel, its answer, its entry and its payload
 pub record Done : Type 0 where

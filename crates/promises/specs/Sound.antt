@@ -4,7 +4,7 @@ use mathlib.Core.Path.{_≡_}
 use mathlib.Core.Bool.{true}
 use lib.ListN.{getD}
 use Rattle.words.specs.declared.ids.RequestId.{RequestId}
-use Rattle.wire.specs.Assigned.{Given}
+use Rattle.wire_laws.specs.Assigned.{Given}
 use Rattle.channel.specs.Rows.{freeRow, holds}
 use Rattle.channel.specs.declared.row.Open.{Open}
 use Rattle.channel.specs.declared.row.Row.{Row}
@@ -18,7 +18,7 @@ use Rattle.table.specs.declared.table.Table.{Table}
 abbrev pub rowOf : Channel → ℕ → Row
 rowOf c i = getD (c .rows) i freeRow
 
--- a request's journal number is one that an entry was given: at least 1, and below the next
+-- a request's journal number is at least 1, and below the next
 abbrev pub Used : ℕ → Open → Type 0
 Used next o = (1 ≤ o .number) × (o .number < next)
 
@@ -29,7 +29,7 @@ Numbered next (In o) = Used next o
 Numbered next (Out o) = Used next o
 
 pub record SoundChannel (next : ℕ) (c : Channel) : Type 0 where
-  -- device and callback are never 0 to 3
+  -- device and callback are interfaces that may be given: never 0 to 3
   pub device : Given (c .device)
   pub callback : Given (c .callback)
   pub numbers : (i : ℕ) → Numbered next (rowOf c i .sort)

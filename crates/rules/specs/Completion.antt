@@ -13,7 +13,7 @@ use Rattle.channel.specs.declared.row.Open.{Open}
 use Rattle.channel.specs.declared.channel.Held.{Held}
 use Rattle.channel.specs.declared.channel.Held.the-variants.{Nothing, Io, In, Out}
 use Rattle.rules.specs.Verdict.{accepted, refused}
-use Rattle.answers.specs.declared.answer.Answer.the-variants.{NotOpen, WrongSort, TooMuch, Disagrees}
+use Rattle.answers.specs.declared.answer.Answer.the-variants.{NotOpen, WrongSort, TooMuch, ResultDisagrees}
 use Rattle.rules.specs.declared.verdict.Act.the-variants.{Keep, Free}
 use Rattle.rules.specs.declared.verdict.Verdict.{Verdict}
 
@@ -32,7 +32,7 @@ resultAgrees c o =
 abbrev pub ioClosed : Kind → IoCompleted → ℕ → Open → Verdict
 ioClosed kind c at o =
     cond (ltb (o .size) (c .size)) (refused kind TooMuch)
-    (cond (resultAgrees c o) (closes kind at o (c .request) (c .size) (c .payload)) (refused kind Disagrees))
+    (cond (resultAgrees c o) (closes kind at o (c .request) (c .size) (c .payload)) (refused kind ResultDisagrees))
 
 -- kind 15 closes IO requests, else 12; 11 where the id is not open
 abbrev pub ioCompleted : Kind → IoCompleted → Held → Verdict

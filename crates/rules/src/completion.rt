@@ -47,7 +47,7 @@ fn io_close(kind: Kind, c: IoCompleted, at: usize, o: Open) -> Verdict
         return verdict::refuse(kind, Answer::TooMuch);
     }
     if !agree(c, o) {
-        return verdict::refuse(kind, Answer::Disagrees);
+        return verdict::refuse(kind, Answer::ResultDisagrees);
     }
     let id = c.request;
     let payload = c.payload;

@@ -1,5 +1,5 @@
 -- 01 "Payload": of an accepted message its input or output bytes, of all else the empty part; against the table before the message is judged.
-use Prim.Native.Nat.{ℕ, _-_}
+use Prim.Native.Nat.{ℕ, _+_, _-_}
 use mathlib.Core.List.{List, []}
 use mathlib.Core.Bool.{cond}
 use lib.ListN.{length, take, drop}
@@ -32,3 +32,16 @@ cutOf m p =
 
 unfoldable pub payloadOf : Table → ℕ → ℕ → List ℕ → List ℕ
 payloadOf t channel side m = cutOf m (shownOf t channel side m)
+
+-- a part of the message as lent and not a copy: it starts so many bytes behind the place that the message's reference points to (a block and an offset); an empty part where the message starts
+abbrev pub behind : ℕ × ℕ → ℕ → ℕ × ℕ
+behind place n = (place .0, n + place .1)
+
+unfoldable pub startIn : List ℕ → Part → ℕ
+startIn m p =
+    cond (ltb (length m) (p .start)) 0
+    (cond (ltb (length m - p .start) (p .size)) 0
+    (p .start))
+
+unfoldable pub startOf : Table → ℕ → ℕ → List ℕ → ℕ
+startOf t channel side m = startIn m (shownOf t channel side m)

@@ -5,7 +5,8 @@ use rules::verdict::Verdict;
 use turn::step;
 use words::layout::Part;
 ghost use mathlib.Core.Path.{_≡_};
-ghost use Rattle.table.specs.Payload.{cutOf, payloadOf, shownOf};
+ghost use denote.Ref.{ptr};
+ghost use Rattle.table.specs.Payload.{behind, cutOf, payloadOf, shownOf, startIn, startOf};
 
 // Where the payload lies; an empty part where the message is refused or has none.
 fn shown(table: Table, channel: u8, side: u8, m: &[u8]) -> Part
@@ -28,6 +29,7 @@ fn shown(table: Table, channel: u8, side: u8, m: &[u8]) -> Part
 // The bytes of a part. A part that would reach beyond the message gives the empty part.
 fn cut(m: &[u8], part: Part) -> &[u8]
     ensures { λ r. ⌜ now r ≡ cutOf (now (m .entry)) part ⌝ }
+    ensures { λ r. ⌜ ptr r ≡ behind (ptr (m .entry)) (startIn (now (m .entry)) part) ⌝ }
 {
     if m.len() < part.start {
         return &m[0..0];
@@ -43,6 +45,7 @@ fn cut(m: &[u8], part: Part) -> &[u8]
 // The payload of a message, against the table as it was before the message was judged. It uses no number.
 pub fn payload(table: Table, channel: u8, side: u8, m: &[u8]) -> &[u8]
     ensures { λ r. ⌜ now r ≡ payloadOf table channel side (now (m .entry)) ⌝ }
+    ensures { λ r. ⌜ ptr r ≡ behind (ptr (m .entry)) (startOf table channel side (now (m .entry))) ⌝ }
 {
     let part = shown(table, channel, side, m);
     cut(m, part)

@@ -1,4 +1,4 @@
-// The only file that knows how a channel keeps its rows: what is found there, and what is done.
+// What is found in a channel's rows, and what is done to the channel.
 use channel::channel::Channel;
 use channel::channel::Held;
 use channel::channel::count_open;

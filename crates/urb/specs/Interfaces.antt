@@ -21,13 +21,9 @@ pipeField n = cond (ltb n 2) 0 (cond (ltb n 4) 2 (cond (ltb n 8) 4 8))
 abbrev pub larger : ℕ → ℕ → ℕ
 larger a b = cond (ltb a b) b a
 
--- at most 30 pipes
-abbrev pub pipesAllowed : ℕ → Bool
-pipesAllowed pipes = leb pipes 30
-
 -- Length is 12 + 12 times the pipe count
 abbrev pub lengthAgrees : ℕ → ℕ → Bool
-lengthAgrees length pipes = eqb length (12 + 12 * pipes)
+lengthAgrees told pipes = eqb told (12 + 12 * pipes)
 
 -- pipes from a place on, and then what `next` says of the place behind them
 unfoldable pub pipesOf : List ℕ → (ℕ → Walk) → ℕ → ℕ → Walk

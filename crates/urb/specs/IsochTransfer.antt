@@ -17,7 +17,3 @@ isochTransferOf u =
     atLeast Fails 24 (left u 16) 16
     (agrees Fails (eqb (left u 16) (28 + 12 * wordAt u 36)) 16
     (Fits (urb.IsochTransfer (record { pipe = wordAt u 24; flags = wordAt u 28; start = wordAt u 32; packets = wordAt u 36; errors = wordAt u 40; list = record { start = 44; size = 12 * wordAt u 36 } })) (length u)))
-
--- at most 1,024 packets
-abbrev pub isochTransferAllowed : IsochTransfer → Bool
-isochTransferAllowed b = leb (b .packets) 1024

@@ -3,4 +3,3 @@ pub mod SelectConfiguration
 pub mod SelectInterface
 pub mod IsochTransfer
 pub mod TsUrb
-pub mod Sizes

@@ -6,7 +6,7 @@ use lib.ListN.{length}
 use lib.Dec.{ltb, leb, eqb}
 use Rattle.words.specs.Words.{byteAt, wordAt}
 use Rattle.words.specs.Layout.{left, field}
-use Rattle.urb.specs.Interfaces.{pipesAllowed, interfacesOf}
+use Rattle.urb.specs.Interfaces.{interfacesOf}
 use Rattle.urb.specs.declared.select_configuration.SelectConfiguration.{SelectConfiguration}
 use Rattle.urb.specs.declared.select_configuration.DescriptorRead.{DescriptorRead}
 use Rattle.urb.specs.declared.select_configuration.DescriptorRead.the-variants as descriptor
@@ -16,7 +16,8 @@ use Rattle.urb.specs.declared.ts_urb.Urb.the-variants as urb
 use Rattle.urb.specs.declared.ts_urb.StructureRead.{StructureRead}
 use Rattle.urb.specs.declared.ts_urb.StructureRead.the-variants.{Fits, Fails}
 
--- behind the interfaces nothing if the flag is 0, else a descriptor of at least 9 bytes, which takes all that is left
+-- behind the interfaces a descriptor of at least 9 bytes, which takes all that is left; if the flag is 0 none is read, and the list's end is where the TsUrb has to end (`filled`, in the
+-- two transfers)
 unfoldable pub descriptorOf : List ℕ → ℕ → ℕ → DescriptorRead
 descriptorOf u flag at =
     cond (eqb flag 0)
@@ -41,7 +42,3 @@ selectConfigurationOf u =
     (field Fails u 25 3
     (field Fails u 28 4
     (configurationFrom u (interfacesOf u (wordAt u 28) 0 32))))
-
--- at most 32 interfaces, of at most 30 pipes each; the descriptor's first two bytes are 9 and 2
-abbrev pub selectConfigurationAllowed : SelectConfiguration → Bool
-selectConfigurationAllowed b = leb (b .count) 32 && (pipesAllowed (b .pipes) && (eqb (b .flag) 0 || (eqb (b .descriptor .first) 9 && eqb (b .descriptor .second) 2)))

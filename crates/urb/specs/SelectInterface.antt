@@ -4,7 +4,7 @@ use mathlib.Core.List.{List}
 use mathlib.Core.Bool.{Bool}
 use Rattle.words.specs.Words.{wordAt}
 use Rattle.words.specs.Layout.{field}
-use Rattle.urb.specs.Interfaces.{pipesAllowed, interfacesOf}
+use Rattle.urb.specs.Interfaces.{interfacesOf}
 use Rattle.urb.specs.declared.select_interface.SelectInterface.{SelectInterface}
 use Rattle.urb.specs.declared.interfaces.Walk.{Walk}
 use Rattle.urb.specs.declared.interfaces.Walk.the-variants as walk
@@ -18,7 +18,3 @@ interfaceFrom u (walk.Fails fault) = Fails fault
 
 unfoldable pub selectInterfaceOf : List ℕ → StructureRead
 selectInterfaceOf u = field Fails u 24 4 (interfaceFrom u (interfacesOf u 1 0 28))
-
--- at most 30 pipes
-abbrev pub selectInterfaceAllowed : SelectInterface → Bool
-selectInterfaceAllowed b = pipesAllowed (b .pipes)

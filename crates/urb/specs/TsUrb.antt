@@ -7,9 +7,9 @@ use lib.Dec.{ltb, leb, eqb}
 use Rattle.words.specs.Words.{halfAt, wordAt}
 use Rattle.words.specs.Ids.{urbRequestIn, noAckIn}
 use Rattle.words.specs.Layout.{left, agrees}
-use Rattle.urb.specs.SelectConfiguration.{selectConfigurationOf, selectConfigurationAllowed}
-use Rattle.urb.specs.SelectInterface.{selectInterfaceOf, selectInterfaceAllowed}
-use Rattle.urb.specs.IsochTransfer.{isochTransferOf, isochTransferAllowed}
+use Rattle.urb.specs.SelectConfiguration.{selectConfigurationOf}
+use Rattle.urb.specs.SelectInterface.{selectInterfaceOf}
+use Rattle.urb.specs.IsochTransfer.{isochTransferOf}
 use Rattle.urb.specs.declared.ts_urb.Urb.{Urb}
 use Rattle.urb.specs.declared.ts_urb.Urb.the-variants.{SelectConfiguration, SelectInterface, GetCurrentFrameNumber, PipeRequest, BulkOrInterruptTransfer, ControlTransfer, IsochTransfer, Unknown}
 use Rattle.urb.specs.declared.ts_urb.StructureRead.{StructureRead}
@@ -71,36 +71,3 @@ urbWith u (Fails fault) = ts.Fails fault
 -- its Size is CbTsUrb, which is all of u from 16 on
 unfoldable pub tsUrbOf : List ℕ → TsUrbRead
 tsUrbOf u = agrees ts.Fails (eqb (halfAt u 16) (left u 16)) 16 (urbWith u (structureOf u (halfAt u 18)))
-
--- a known function, and counts within their limits
-abbrev pub urbAllowed : Urb → Bool
-urbAllowed (SelectConfiguration b) = selectConfigurationAllowed b
-urbAllowed (SelectInterface b) = selectInterfaceAllowed b
-urbAllowed GetCurrentFrameNumber = true
-urbAllowed (PipeRequest b) = true
-urbAllowed (BulkOrInterruptTransfer b) = true
-urbAllowed (ControlTransfer b) = true
-urbAllowed (IsochTransfer b) = isochTransferAllowed b
-urbAllowed Unknown = false
-
--- 0x0000, 0x0001, 0x0002, 0x0007 and 0x001E come only in kind 10 with OutputBufferSize 0
-abbrev pub onlyIn : Urb → Bool
-onlyIn (SelectConfiguration b) = true
-onlyIn (SelectInterface b) = true
-onlyIn GetCurrentFrameNumber = true
-onlyIn (PipeRequest b) = true
-onlyIn (BulkOrInterruptTransfer b) = false
-onlyIn (ControlTransfer b) = false
-onlyIn (IsochTransfer b) = false
-onlyIn Unknown = false
-
--- NoAck is for function 0x000A alone
-abbrev pub mayNoAck : Urb → Bool
-mayNoAck (SelectConfiguration b) = false
-mayNoAck (SelectInterface b) = false
-mayNoAck GetCurrentFrameNumber = false
-mayNoAck (PipeRequest b) = false
-mayNoAck (BulkOrInterruptTransfer b) = false
-mayNoAck (ControlTransfer b) = false
-mayNoAck (IsochTransfer b) = true
-mayNoAck Unknown = false

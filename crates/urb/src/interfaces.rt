@@ -13,7 +13,7 @@ use words::numbers::u16_at;
 use words::numbers::u32_at;
 ghost use mathlib.Core.Path.{_≡_};
 ghost use Prim.Native.Nat.{_≤_};
-ghost use Rattle.urb.specs.Interfaces.{pipesAllowed, interfaceField, pipeField, larger, lengthAgrees, interfacesOf, pipesOf};
+ghost use Rattle.urb.specs.Interfaces.{interfaceField, pipeField, larger, lengthAgrees, interfacesOf, pipesOf};
 
 // Where a list ends and the largest NumberOfPipes in it, or what broke.
 pub enum Walk {
@@ -25,13 +25,6 @@ pub struct Interfaces {}
 
 impl Interfaces {
     pub const MOST_PIPES: u32 = 30;
-}
-
-// The limit of an interface's pipes.
-pub(crate) fn pipes_allowed(pipes: u32) -> bool
-    ensures { λ r. ⌜ r ≡ pipesAllowed pipes ⌝ }
-{
-    pipes <= Interfaces::MOST_PIPES
 }
 
 // The start of the field of an interface that `left` bytes no longer hold.
@@ -79,10 +72,10 @@ fn larger_of(a: u32, b: u32) -> u32
 }
 
 // Length is that of an interface with `pipes` pipes. The sum is of 64 bits, so that no pipe count makes it wrap.
-fn length_agrees(length: u32, pipes: u32) -> bool
-    ensures { λ r. ⌜ r ≡ lengthAgrees length pipes ⌝ }
+fn length_agrees(told: u32, pipes: u32) -> bool
+    ensures { λ r. ⌜ r ≡ lengthAgrees told pipes ⌝ }
 {
-    length as u64 == 12 + 12 * pipes as u64
+    told as u64 == 12 + 12 * pipes as u64
 }
 
 // `left` interfaces from `at` on. The largest pipe count so far is `most`.

@@ -13,7 +13,7 @@ use words::layout::Part;
 use words::numbers::rest;
 use words::numbers::u32_at;
 ghost use mathlib.Core.Path.{_≡_};
-ghost use Rattle.urb.specs.IsochTransfer.{isochTransferOf, isochTransferAllowed};
+ghost use Rattle.urb.specs.IsochTransfer.{isochTransferOf};
 
 pub struct IsochTransfer {
     pub pipe: u32,
@@ -56,10 +56,4 @@ pub(crate) fn read(u: &[u8]) -> StructureRead
         }),
         u.len(),
     )
-}
-
-pub(crate) fn allowed(b: IsochTransfer) -> bool
-    ensures { λ r. ⌜ r ≡ isochTransferAllowed b ⌝ }
-{
-    b.packets <= IsochTransfer::MOST_PACKETS
 }

@@ -17,7 +17,7 @@ use words::numbers::rest;
 use words::numbers::u32_at;
 ghost use mathlib.Core.Path.{_≡_};
 ghost use Prim.Native.Nat.{_≤_};
-ghost use Rattle.urb.specs.SelectConfiguration.{selectConfigurationOf, configurationOf, descriptorOf, selectConfigurationAllowed};
+ghost use Rattle.urb.specs.SelectConfiguration.{selectConfigurationOf, configurationOf, descriptorOf};
 
 pub struct SelectConfiguration {
     pub flag: u32,
@@ -118,23 +118,4 @@ fn read_descriptor(u: &[u8], flag: u32, at: usize) -> DescriptorRead
         },
         u.len(),
     )
-}
-
-pub(crate) fn allowed(b: SelectConfiguration) -> bool
-    ensures { λ r. ⌜ r ≡ selectConfigurationAllowed b ⌝ }
-{
-    if SelectConfiguration::MOST_INTERFACES < b.count {
-        return false;
-    }
-    if !interfaces::pipes_allowed(b.pipes) {
-        return false;
-    }
-    if b.flag == 0 {
-        return true;
-    }
-    let d = b.descriptor;
-    if d.first != 9 {
-        return false;
-    }
-    d.second == 2
 }

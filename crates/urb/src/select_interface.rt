@@ -11,7 +11,7 @@ use words::layout::Part;
 use words::numbers::rest;
 use words::numbers::u32_at;
 ghost use mathlib.Core.Path.{_≡_};
-ghost use Rattle.urb.specs.SelectInterface.{selectInterfaceOf, selectInterfaceAllowed};
+ghost use Rattle.urb.specs.SelectInterface.{selectInterfaceOf};
 
 pub struct SelectInterface {
     pub handle: u32,
@@ -45,10 +45,4 @@ pub(crate) fn read(u: &[u8]) -> StructureRead
         ),
         Walk::Fails(fault) => StructureRead::Fails(fault),
     }
-}
-
-pub(crate) fn allowed(b: SelectInterface) -> bool
-    ensures { λ r. ⌜ r ≡ selectInterfaceAllowed b ⌝ }
-{
-    interfaces::pipes_allowed(b.pipes)
 }

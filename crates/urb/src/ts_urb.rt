@@ -24,7 +24,7 @@ use words::layout::Fault;
 use words::numbers::rest;
 use words::numbers::u16_at;
 ghost use mathlib.Core.Path.{_≡_};
-ghost use Rattle.urb.specs.TsUrb.{tsUrbOf, structureOf, oneSizeOf, urbAllowed, onlyIn, mayNoAck};
+ghost use Rattle.urb.specs.TsUrb.{tsUrbOf, structureOf, oneSizeOf};
 
 pub enum Urb {
     SelectConfiguration(SelectConfiguration),
@@ -115,52 +115,4 @@ fn one_size(u: &[u8], function: u32) -> StructureRead
         return control_transfer::read(u);
     }
     StructureRead::Fits(Urb::Unknown, u.len())
-}
-
-// The values that 01 states for a TsUrb wherever it comes: a known function, and counts within their limits.
-pub fn allowed(urb: Urb) -> bool
-    ensures { λ r. ⌜ r ≡ urbAllowed urb ⌝ }
-{
-    match urb {
-        Urb::SelectConfiguration(b) => select_configuration::allowed(b),
-        Urb::SelectInterface(b) => select_interface::allowed(b),
-        Urb::GetCurrentFrameNumber => true,
-        Urb::PipeRequest(_) => true,
-        Urb::BulkOrInterruptTransfer(_) => true,
-        Urb::ControlTransfer(_) => true,
-        Urb::IsochTransfer(b) => isoch_transfer::allowed(b),
-        Urb::Unknown => false,
-    }
-}
-
-// The functions that come only in kind 10 with OutputBufferSize 0.
-pub fn only_in(urb: Urb) -> bool
-    ensures { λ r. ⌜ r ≡ onlyIn urb ⌝ }
-{
-    match urb {
-        Urb::SelectConfiguration(_) => true,
-        Urb::SelectInterface(_) => true,
-        Urb::GetCurrentFrameNumber => true,
-        Urb::PipeRequest(_) => true,
-        Urb::BulkOrInterruptTransfer(_) => false,
-        Urb::ControlTransfer(_) => false,
-        Urb::IsochTransfer(_) => false,
-        Urb::Unknown => false,
-    }
-}
-
-// The function that may come with NoAck.
-pub fn may_no_ack(urb: Urb) -> bool
-    ensures { λ r. ⌜ r ≡ mayNoAck urb ⌝ }
-{
-    match urb {
-        Urb::SelectConfiguration(_) => false,
-        Urb::SelectInterface(_) => false,
-        Urb::GetCurrentFrameNumber => false,
-        Urb::PipeRequest(_) => false,
-        Urb::BulkOrInterruptTransfer(_) => false,
-        Urb::ControlTransfer(_) => false,
-        Urb::IsochTransfer(_) => true,
-        Urb::Unknown => false,
-    }
 }

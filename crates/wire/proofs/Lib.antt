@@ -1,5 +1,1 @@
-pub mod Asked
-pub mod Assigned
-pub mod Blind
 pub mod Determined
-pub mod Laws

@@ -14,8 +14,5 @@ pub mod IoControlCompletion
 pub mod TsUrbResult
 pub mod UrbCompletion
 pub mod UrbCompletionNoData
-pub mod Message
 pub mod Reading
-pub mod Payload
-pub mod Assigned
-pub mod Sizes
+pub mod Message

@@ -1,4 +1,4 @@
--- The bodies of all kinds as one type, and what the size reader of each kind says of a message: the laws of proofs/ speak of every kind at once.
+-- The bodies of all kinds as one type, and what the size reader of each kind says of a message: its body, or at which byte the sizes fail (answer 7).
 use Prim.Native.Nat.{ℕ}
 use mathlib.Core.List.{List}
 use Rattle.wire.specs.CapabilityRequest.{capabilityRequestOf}
@@ -57,10 +57,8 @@ use Rattle.wire.specs.declared.urb_completion.UrbCompletionRead.the-vari
 use Rattle.wire.specs.declared.urb_completion_no_data.UrbCompletionNoDataRead.{UrbCompletionNoDataRead}
 use Rattle.wire.specs.declared.urb_completion_no_data.UrbCompletionNoDataRead.the-variants as urbCompletionNoData
 use Rattle.words.specs.declared.layout.Fault.{Fault}
-use Rattle.words.specs.declared.layout.Part.{Part}
 use Rattle.words.specs.declared.kind.Kind.{Kind}
 use Rattle.words.specs.declared.kind.Kind.the-variants as kind
-use Rattle.wire.specs.Message.{emptyPart}
 
 pub data Body : Type 0 where
   capabilityRequestBody : CapabilityRequest → Body
@@ -156,20 +154,3 @@ readingOf kind.RetractDevice m = retractDeviceReading (retractDeviceOf m)
 readingOf kind.IoControlCompletion m = ioControlCompletionReading (ioControlCompletionOf m)
 readingOf kind.UrbCompletion m = urbCompletionReading (urbCompletionOf m)
 readingOf kind.UrbCompletionNoData m = urbCompletionNoDataReading (urbCompletionNoDataOf m)
-
--- where the data run of a body lies: its input or output bytes, or the empty part
-abbrev pub dataRun : Body → Part
-dataRun (capabilityRequestBody b) = emptyPart
-dataRun (capabilityResponseBody b) = emptyPart
-dataRun (channelCreatedBody b) = emptyPart
-dataRun addVirtualChannelBody = emptyPart
-dataRun (addDeviceBody b) = emptyPart
-dataRun (cancelRequestBody b) = emptyPart
-dataRun (registerRequestCallbackBody b) = emptyPart
-dataRun (ioControlBody b) = b .input
-dataRun (transferInRequestBody b) = emptyPart
-dataRun (transferOutRequestBody b) = b .output
-dataRun (retractDeviceBody b) = emptyPart
-dataRun (ioControlCompletionBody b) = b .output
-dataRun (urbCompletionBody b) = b .output
-dataRun (urbCompletionNoDataBody b) = emptyPart

@@ -5,7 +5,7 @@ use mathlib.Core.Bool.{Bool, true, false, cond, not, _&&_}
 use lib.Dec.{eqb}
 use Rattle.words.specs.Layout.{ended, filled}
 use Rattle.wire.specs.Transfer.{transferOf}
-use Rattle.urb.specs.TsUrb.{urbAllowed, onlyIn}
+use Rattle.urb_values.specs.Values.{urbAllowed, onlyIn}
 use Rattle.wire.specs.declared.transfer.Transfer.{Transfer}
 use Rattle.wire.specs.declared.transfer.TransferRead.{TransferRead}
 use Rattle.wire.specs.declared.transfer.TransferRead.the-variants as transfer

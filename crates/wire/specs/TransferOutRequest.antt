@@ -4,7 +4,7 @@ use mathlib.Core.List.{List}
 use mathlib.Core.Bool.{Bool, true, false, cond, not, _&&_}
 use Rattle.words.specs.Layout.{field, ended, filled}
 use Rattle.wire.specs.Transfer.{transferOf}
-use Rattle.urb.specs.TsUrb.{urbAllowed, onlyIn, mayNoAck}
+use Rattle.urb_values.specs.Values.{urbAllowed, onlyIn, mayNoAck}
 use Rattle.wire.specs.declared.transfer.Transfer.{Transfer}
 use Rattle.wire.specs.declared.transfer.TransferRead.{TransferRead}
 use Rattle.wire.specs.declared.transfer.TransferRead.the-variants as transfer

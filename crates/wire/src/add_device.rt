@@ -19,7 +19,8 @@ use words::layout::Fault;
 use words::numbers::rest;
 use words::numbers::u32_at;
 ghost use mathlib.Core.Path.{_≡_};
-ghost use Rattle.wire.specs.Message.{addDeviceAsked};
+ghost use Rattle.wire.specs.Message.{asksBy};
+ghost use Rattle.wire.specs.Reading.{addDeviceReading};
 ghost use Rattle.wire.specs.AddDevice.{addDeviceOf, pairOf, deviceOf, textPairAllowed, addDeviceAllowed};
 
 // A text and the list or text behind it: the instance id with the hardware ids, or the compatible ids with the container id.
@@ -157,7 +158,7 @@ fn pair_allowed(single: Text, list: Text) -> bool
 }
 
 pub(crate) fn ask(m: &[u8]) -> Asked
-    ensures { λ r. ⌜ r ≡ addDeviceAsked (addDeviceOf (now (m .entry))) ⌝ }
+    ensures { λ r. ⌜ r ≡ asksBy (addDeviceReading (addDeviceOf (now (m .entry)))) ⌝ }
 {
     match read(m) {
         AddDeviceRead::Fits(b) => {

@@ -3,7 +3,8 @@ use crate::message::Asked;
 use words::layout::Fault;
 use words::numbers::rest;
 ghost use mathlib.Core.Path.{_≡_};
-ghost use Rattle.wire.specs.Message.{addVirtualChannelAsked};
+ghost use Rattle.wire.specs.Message.{asksBy};
+ghost use Rattle.wire.specs.Reading.{addVirtualChannelReading};
 ghost use Rattle.wire.specs.AddVirtualChannel.{addVirtualChannelOf};
 
 pub struct AddVirtualChannel {}
@@ -31,7 +32,7 @@ pub(crate) fn read(m: &[u8]) -> AddVirtualChannelRead
 }
 
 pub(crate) fn ask(m: &[u8]) -> Asked
-    ensures { λ r. ⌜ r ≡ addVirtualChannelAsked (addVirtualChannelOf (now (m .entry))) ⌝ }
+    ensures { λ r. ⌜ r ≡ asksBy (addVirtualChannelReading (addVirtualChannelOf (now (m .entry)))) ⌝ }
 {
     match read(m) {
         AddVirtualChannelRead::Fits => Asked::Step,

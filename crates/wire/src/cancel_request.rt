@@ -6,7 +6,8 @@ use words::ids::RequestId;
 use words::layout::Fault;
 use words::numbers::rest;
 ghost use mathlib.Core.Path.{_≡_};
-ghost use Rattle.wire.specs.Message.{cancelRequestAsked};
+ghost use Rattle.wire.specs.Message.{asksBy};
+ghost use Rattle.wire.specs.Reading.{cancelRequestReading};
 ghost use Rattle.wire.specs.CancelRequest.{cancelRequestOf};
 
 pub struct CancelRequest {
@@ -39,7 +40,7 @@ pub(crate) fn read(m: &[u8]) -> CancelRequestRead
 }
 
 pub(crate) fn ask(m: &[u8]) -> Asked
-    ensures { λ r. ⌜ r ≡ cancelRequestAsked (cancelRequestOf (now (m .entry))) ⌝ }
+    ensures { λ r. ⌜ r ≡ asksBy (cancelRequestReading (cancelRequestOf (now (m .entry)))) ⌝ }
 {
     match read(m) {
         CancelRequestRead::Fits(b) => {

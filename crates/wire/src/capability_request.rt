@@ -6,7 +6,8 @@ use words::layout::Fault;
 use words::numbers::rest;
 use words::numbers::u32_at;
 ghost use mathlib.Core.Path.{_≡_};
-ghost use Rattle.wire.specs.Message.{capabilityRequestAsked};
+ghost use Rattle.wire.specs.Message.{asksBy};
+ghost use Rattle.wire.specs.Reading.{capabilityRequestReading};
 ghost use Rattle.wire.specs.CapabilityRequest.{capabilityRequestOf, capabilityRequestAllowed};
 
 pub struct CapabilityRequest {
@@ -47,7 +48,7 @@ pub(crate) fn allowed(b: CapabilityRequest) -> bool
 }
 
 pub(crate) fn ask(m: &[u8]) -> Asked
-    ensures { λ r. ⌜ r ≡ capabilityRequestAsked (capabilityRequestOf (now (m .entry))) ⌝ }
+    ensures { λ r. ⌜ r ≡ asksBy (capabilityRequestReading (capabilityRequestOf (now (m .entry)))) ⌝ }
 {
     match read(m) {
         CapabilityRequestRead::Fits(b) => {

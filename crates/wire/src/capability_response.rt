@@ -8,7 +8,8 @@ use words::layout::Fault;
 use words::numbers::rest;
 use words::numbers::u32_at;
 ghost use mathlib.Core.Path.{_≡_};
-ghost use Rattle.wire.specs.Message.{capabilityResponseAsked};
+ghost use Rattle.wire.specs.Message.{asksBy};
+ghost use Rattle.wire.specs.Reading.{capabilityResponseReading};
 ghost use Rattle.wire.specs.CapabilityResponse.{capabilityResponseOf, capabilityResponseAllowed};
 
 pub struct CapabilityResponse {
@@ -55,7 +56,7 @@ pub(crate) fn allowed(b: CapabilityResponse) -> bool
 }
 
 pub(crate) fn ask(m: &[u8]) -> Asked
-    ensures { λ r. ⌜ r ≡ capabilityResponseAsked (capabilityResponseOf (now (m .entry))) ⌝ }
+    ensures { λ r. ⌜ r ≡ asksBy (capabilityResponseReading (capabilityResponseOf (now (m .entry)))) ⌝ }
 {
     match read(m) {
         CapabilityResponseRead::Fits(b) => {

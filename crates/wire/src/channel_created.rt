@@ -8,7 +8,8 @@ use words::layout::Fault;
 use words::numbers::rest;
 use words::numbers::u32_at;
 ghost use mathlib.Core.Path.{_≡_};
-ghost use Rattle.wire.specs.Message.{channelCreatedAsked};
+ghost use Rattle.wire.specs.Message.{asksBy};
+ghost use Rattle.wire.specs.Reading.{channelCreatedReading};
 ghost use Rattle.wire.specs.ChannelCreated.{channelCreatedOf, channelCreatedAllowed};
 
 pub struct ChannelCreated {
@@ -67,7 +68,7 @@ pub(crate) fn allowed(b: ChannelCreated) -> bool
 }
 
 pub(crate) fn ask(m: &[u8]) -> Asked
-    ensures { λ r. ⌜ r ≡ channelCreatedAsked (channelCreatedOf (now (m .entry))) ⌝ }
+    ensures { λ r. ⌜ r ≡ asksBy (channelCreatedReading (channelCreatedOf (now (m .entry)))) ⌝ }
 {
     match read(m) {
         ChannelCreatedRead::Fits(b) => {

@@ -2,7 +2,8 @@
 use crate::io_control;
 use crate::message::Asked;
 ghost use mathlib.Core.Path.{_≡_};
-ghost use Rattle.wire.specs.Message.{ioControlAsked};
+ghost use Rattle.wire.specs.Message.{asksBy};
+ghost use Rattle.wire.specs.Reading.{ioControlReading};
 ghost use Rattle.wire.specs.IoControl.{ioControlOf};
 
 pub struct InternalIoControl {}
@@ -14,7 +15,7 @@ impl InternalIoControl {
 }
 
 pub(crate) fn ask(m: &[u8]) -> Asked
-    ensures { λ r. ⌜ r ≡ ioControlAsked (ioControlOf (now (m .entry))) ⌝ }
+    ensures { λ r. ⌜ r ≡ asksBy (ioControlReading (ioControlOf (now (m .entry)))) ⌝ }
 {
     io_control::ask(m)
 }

@@ -13,7 +13,8 @@ use words::layout::Part;
 use words::numbers::rest;
 use words::numbers::u32_at;
 ghost use mathlib.Core.Path.{_≡_};
-ghost use Rattle.wire.specs.Message.{ioControlAsked};
+ghost use Rattle.wire.specs.Message.{asksBy};
+ghost use Rattle.wire.specs.Reading.{ioControlReading};
 ghost use Rattle.wire.specs.IoControl.{ioControlOf};
 
 pub struct IoControl {
@@ -69,7 +70,7 @@ pub(crate) fn read(m: &[u8]) -> IoControlRead
 }
 
 pub(crate) fn ask(m: &[u8]) -> Asked
-    ensures { λ r. ⌜ r ≡ ioControlAsked (ioControlOf (now (m .entry))) ⌝ }
+    ensures { λ r. ⌜ r ≡ asksBy (ioControlReading (ioControlOf (now (m .entry)))) ⌝ }
 {
     match read(m) {
         IoControlRead::Fits(b) => {

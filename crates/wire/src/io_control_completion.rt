@@ -13,7 +13,8 @@ use words::layout::Part;
 use words::numbers::rest;
 use words::numbers::u32_at;
 ghost use mathlib.Core.Path.{_≡_};
-ghost use Rattle.wire.specs.Message.{ioControlCompletionAsked};
+ghost use Rattle.wire.specs.Message.{asksBy};
+ghost use Rattle.wire.specs.Reading.{ioControlCompletionReading};
 ghost use Rattle.wire.specs.IoControlCompletion.{ioControlCompletionOf};
 
 pub struct IoControlCompletion {
@@ -71,7 +72,7 @@ pub(crate) fn read(m: &[u8]) -> IoControlCompletionRead
 }
 
 pub(crate) fn ask(m: &[u8]) -> Asked
-    ensures { λ r. ⌜ r ≡ ioControlCompletionAsked (ioControlCompletionOf (now (m .entry))) ⌝ }
+    ensures { λ r. ⌜ r ≡ asksBy (ioControlCompletionReading (ioControlCompletionOf (now (m .entry)))) ⌝ }
 {
     match read(m) {
         IoControlCompletionRead::Fits(b) => {

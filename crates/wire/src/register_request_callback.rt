@@ -9,7 +9,8 @@ use words::layout::Fault;
 use words::numbers::rest;
 use words::numbers::u32_at;
 ghost use mathlib.Core.Path.{_≡_};
-ghost use Rattle.wire.specs.Message.{registerRequestCallbackAsked};
+ghost use Rattle.wire.specs.Message.{asksBy};
+ghost use Rattle.wire.specs.Reading.{registerRequestCallbackReading};
 ghost use Rattle.wire.specs.RegisterRequestCallback.{registerRequestCallbackOf, registerRequestCallbackAllowed};
 
 pub struct RegisterRequestCallback {
@@ -71,7 +72,7 @@ pub(crate) fn allowed(b: RegisterRequestCallback) -> bool
 }
 
 pub(crate) fn ask(m: &[u8]) -> Asked
-    ensures { λ r. ⌜ r ≡ registerRequestCallbackAsked (registerRequestCallbackOf (now (m .entry))) ⌝ }
+    ensures { λ r. ⌜ r ≡ asksBy (registerRequestCallbackReading (registerRequestCallbackOf (now (m .entry)))) ⌝ }
 {
     match read(m) {
         RegisterRequestCallbackRead::Fits(b) => {

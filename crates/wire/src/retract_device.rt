@@ -6,7 +6,8 @@ use words::layout::Fault;
 use words::numbers::rest;
 use words::numbers::u32_at;
 ghost use mathlib.Core.Path.{_≡_};
-ghost use Rattle.wire.specs.Message.{retractDeviceAsked};
+ghost use Rattle.wire.specs.Message.{asksBy};
+ghost use Rattle.wire.specs.Reading.{retractDeviceReading};
 ghost use Rattle.wire.specs.RetractDevice.{retractDeviceOf, retractDeviceAllowed};
 
 pub struct RetractDevice {
@@ -45,7 +46,7 @@ pub(crate) fn allowed(b: RetractDevice) -> bool
 }
 
 pub(crate) fn ask(m: &[u8]) -> Asked
-    ensures { λ r. ⌜ r ≡ retractDeviceAsked (retractDeviceOf (now (m .entry))) ⌝ }
+    ensures { λ r. ⌜ r ≡ asksBy (retractDeviceReading (retractDeviceOf (now (m .entry)))) ⌝ }
 {
     match read(m) {
         RetractDeviceRead::Fits(b) => {

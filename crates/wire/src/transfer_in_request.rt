@@ -7,13 +7,14 @@ use crate::message::Asked;
 use crate::message::Request;
 use crate::transfer;
 use crate::transfer::TransferRead;
-use urb::ts_urb;
 use urb::ts_urb::TsUrb;
+use urb_values::values;
 use words::layout::Fault;
 use words::layout::Part;
 use words::numbers::rest;
 ghost use mathlib.Core.Path.{_≡_};
-ghost use Rattle.wire.specs.Message.{transferInRequestAsked};
+ghost use Rattle.wire.specs.Message.{asksBy};
+ghost use Rattle.wire.specs.Reading.{transferInRequestReading};
 ghost use Rattle.wire.specs.TransferInRequest.{transferInRequestOf, transferInRequestAllowed};
 
 pub struct TransferInRequest {
@@ -61,17 +62,17 @@ pub(crate) fn allowed(b: TransferInRequest) -> bool
         return false;
     }
     let urb = t.urb;
-    if !ts_urb::allowed(urb) {
+    if !values::allowed(urb) {
         return false;
     }
-    if ts_urb::only_in(urb) {
+    if values::only_in(urb) {
         return b.size == 0;
     }
     true
 }
 
 pub(crate) fn ask(m: &[u8]) -> Asked
-    ensures { λ r. ⌜ r ≡ transferInRequestAsked (transferInRequestOf (now (m .entry))) ⌝ }
+    ensures { λ r. ⌜ r ≡ asksBy (transferInRequestReading (transferInRequestOf (now (m .entry)))) ⌝ }
 {
     match read(m) {
         TransferInRequestRead::Fits(b) => {

@@ -9,13 +9,14 @@ use crate::message::Request;
 use crate::transfer;
 use crate::transfer::Transfer;
 use crate::transfer::TransferRead;
-use urb::ts_urb;
 use urb::ts_urb::TsUrb;
+use urb_values::values;
 use words::layout::Fault;
 use words::layout::Part;
 use words::numbers::rest;
 ghost use mathlib.Core.Path.{_≡_};
-ghost use Rattle.wire.specs.Message.{transferOutRequestAsked};
+ghost use Rattle.wire.specs.Message.{asksBy};
+ghost use Rattle.wire.specs.Reading.{transferOutRequestReading};
 ghost use Rattle.wire.specs.TransferOutRequest.{transferOutRequestOf, outgoingOf, transferOutRequestAllowed};
 
 pub struct TransferOutRequest {
@@ -75,20 +76,20 @@ pub(crate) fn allowed(b: TransferOutRequest) -> bool
 {
     let t = b.urb;
     let urb = t.urb;
-    if !ts_urb::allowed(urb) {
+    if !values::allowed(urb) {
         return false;
     }
-    if ts_urb::only_in(urb) {
+    if values::only_in(urb) {
         return false;
     }
     if t.noack {
-        return ts_urb::may_no_ack(urb);
+        return values::may_no_ack(urb);
     }
     true
 }
 
 pub(crate) fn ask(m: &[u8]) -> Asked
-    ensures { λ r. ⌜ r ≡ transferOutRequestAsked (transferOutRequestOf (now (m .entry))) ⌝ }
+    ensures { λ r. ⌜ r ≡ asksBy (transferOutRequestReading (transferOutRequestOf (now (m .entry)))) ⌝ }
 {
     match read(m) {
         TransferOutRequestRead::Fits(b) => {

@@ -13,7 +13,8 @@ use words::layout::Fault;
 use words::layout::Part;
 use words::numbers::rest;
 ghost use mathlib.Core.Path.{_≡_};
-ghost use Rattle.wire.specs.Message.{urbCompletionAsked};
+ghost use Rattle.wire.specs.Message.{asksBy};
+ghost use Rattle.wire.specs.Reading.{urbCompletionReading};
 ghost use Rattle.wire.specs.UrbCompletion.{urbCompletionOf, withOutputOf, urbCompletionAllowed};
 
 pub struct UrbCompletion {
@@ -77,7 +78,7 @@ pub(crate) fn allowed(b: UrbCompletion) -> bool
 }
 
 pub(crate) fn ask(m: &[u8]) -> Asked
-    ensures { λ r. ⌜ r ≡ urbCompletionAsked (urbCompletionOf (now (m .entry))) ⌝ }
+    ensures { λ r. ⌜ r ≡ asksBy (urbCompletionReading (urbCompletionOf (now (m .entry)))) ⌝ }
 {
     match read(m) {
         UrbCompletionRead::Fits(b) => {

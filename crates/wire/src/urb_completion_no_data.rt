@@ -11,7 +11,8 @@ use words::layout::Fault;
 use words::layout::Part;
 use words::numbers::rest;
 ghost use mathlib.Core.Path.{_≡_};
-ghost use Rattle.wire.specs.Message.{urbCompletionNoDataAsked};
+ghost use Rattle.wire.specs.Message.{asksBy};
+ghost use Rattle.wire.specs.Reading.{urbCompletionNoDataReading};
 ghost use Rattle.wire.specs.UrbCompletionNoData.{urbCompletionNoDataOf};
 
 pub struct UrbCompletionNoData {
@@ -54,7 +55,7 @@ pub(crate) fn read(m: &[u8]) -> UrbCompletionNoDataRead
 }
 
 pub(crate) fn ask(m: &[u8]) -> Asked
-    ensures { λ r. ⌜ r ≡ urbCompletionNoDataAsked (urbCompletionNoDataOf (now (m .entry))) ⌝ }
+    ensures { λ r. ⌜ r ≡ asksBy (urbCompletionNoDataReading (urbCompletionNoDataOf (now (m .entry)))) ⌝ }
 {
     match read(m) {
         UrbCompletionNoDataRead::Fits(b) => {

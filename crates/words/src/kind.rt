@@ -1,4 +1,4 @@
-// The kinds of message that have a row in 01's table, and their numbers. Kind 12 is an accepted transfer out with NoAck, and 18 a close: neither is a message's.
+// The kinds that have a row in 01's table, and their numbers. 12, an accepted transfer out with NoAck, and 18, a close, have none there.
 ghost use mathlib.Core.Path.{_≡_};
 ghost use Rattle.words.specs.Kind.{kindNumber};
 

@@ -1,6 +1,7 @@
 -- `table::payload::cut` meets its contract.
-use Rattle.table.specs.Payload.{cutOf}
+use Rattle.table.specs.Payload.{cutOf, startIn}
 use native.Mathlib.Nat.{add-sub-cancel-left}
+use mathlib.Core.Path.{refl}
 use borrow.Author.Needs.{needs}
 use Rattle.words.proofs.Tests.{tests}
 use borrow.Author.Tests.{le-ltb, lt-ltb}
@@ -8,14 +9,14 @@ use Rattle.table.proofs.payload.cut.Statement.{statement}
 use Rattle.table.proofs.payload.cut.Tie as tie
 
 pub cut-spec : {M : Type 1} → statement M
-unfolding cutOf
+unfolding cutOf startIn
 cut-spec =
     tie.close
     (tie.spec
     (search needs)
     (search needs)
     (search needs)
-    (λ c. rw (lt-ltb _ _ (c .before .if1 .taken)))
+    (λ c. rw (lt-ltb _ _ (c .before .if1 .taken)) (refl, refl))
     (search needs)
     (search needs)
     (search needs)
@@ -25,4 +26,4 @@ cut-spec =
     (search needs)
     (search needs)
     (search needs)
-    (λ c. rw (le-ltb _ _ (c .before .before .before .before .before .if1 .left), le-ltb _ _ (c .before .before .if2 .left), add-sub-cancel-left)))
+    (λ c. rw (le-ltb _ _ (c .before .before .before .before .before .if1 .left), le-ltb _ _ (c .before .before .if2 .left), add-sub-cancel-left) (refl, refl)))

@@ -1,11 +1,11 @@
 -- `table::payload::payload` meets its contract.
-use Rattle.table.specs.Payload.{payloadOf}
+use Rattle.table.specs.Payload.{payloadOf, startOf}
 use borrow.Author.Needs.{needs}
 use Rattle.table.proofs.payload.payload.Statement.{statement}
 use Rattle.table.proofs.payload.payload.Tie as tie
 
 pub payload-spec : {M : Type 1} → statement M
-unfolding payloadOf
+unfolding payloadOf startOf
 payload-spec =
     tie.close
     (tie.spec

@@ -1,11 +1,12 @@
 -- `wire::message::ask` meets its contract: at each `return` the tests and calls before it say which case of the definition holds.
 use borrow.Author.Needs.{needs}
 use Rattle.wire.specs.Message.{askedOf}
+use Rattle.wire.specs.Reading.{readingOf}
 use Rattle.wire.proofs.message.ask.Statement.{statement}
 use Rattle.wire.proofs.message.ask.Tie as tie
 
 pub ask-spec : {M : Type 1} → statement M
-unfolding askedOf
+unfolding askedOf readingOf
 ask-spec =
     tie.close
     (tie.spec

@@ -1,0 +1,2 @@
+// The values that 01 states for a TsUrb, which the urb crate reads.
+pub mod values;

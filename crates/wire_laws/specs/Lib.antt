@@ -1,0 +1,5 @@
+pub mod Device
+pub mod Urb
+pub mod Sizes
+pub mod Payload
+pub mod Assigned
