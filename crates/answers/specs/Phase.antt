@@ -1,6 +1,6 @@
 -- 01 "Header and kinds": the phase before and after each kind.
-use Rattle.words.specs.declared.kind.Kind.{Kind}
-use Rattle.words.specs.declared.kind.Kind.the-variants.{CapabilityRequest, CapabilityResponse, ChannelCreatedByServer, ChannelCreatedByClient, AddVirtualChannel, AddDevice, CancelRequest, RegisterRequestCallback, IoControl, InternalIoControl, TransferInRequest, TransferOutRequest, RetractDevice, IoControlCompletion, UrbCompletion, UrbCompletionNoData}
+use Rattle.answers.specs.declared.kind.Kind.{Kind}
+use Rattle.answers.specs.declared.kind.Kind.the-variants.{CapabilityRequest, CapabilityResponse, ChannelCreatedByServer, ChannelCreatedByClient, AddVirtualChannel, AddDevice, CancelRequest, RegisterRequestCallback, IoControl, InternalIoControl, TransferInRequest, TransferOutRequest, RetractDevice, IoControlCompletion, UrbCompletion, UrbCompletionNoData}
 use Rattle.answers.specs.declared.phase.Phases.{Phases}
 
 abbrev pub phasesOf : Kind → Phases

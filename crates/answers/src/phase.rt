@@ -1,5 +1,5 @@
 // The phase in which a kind may come, and the phase after it: the last column of 01's table of kinds.
-use words::kind::Kind;
+use crate::kind::Kind;
 ghost use mathlib.Core.Path.{_≡_};
 ghost use Rattle.answers.specs.Phase.{phasesOf};
 

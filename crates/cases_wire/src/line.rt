@@ -1,4 +1,5 @@
 // What the readers say of one message, as the rest of a line.
+use answers::kind::Kind;
 use kinds::kind;
 use kinds::kind::KindFound;
 use wire::message;
@@ -10,7 +11,6 @@ use words::header::Header;
 use words::header::HeaderRead;
 use words::ids::Known;
 use words::ids::RequestId;
-use words::kind::Kind;
 use words::layout::Fault;
 use words::layout::Part;
 
@@ -34,7 +34,7 @@ fn of_header(m: &[u8], h: Header, side: u8, device: Known, callback: Known) {
 
 fn of_kind(m: &[u8], found: Kind) {
     io::write_all(1, b" kind");
-    number(words::kind::number(found) as u64);
+    number(answers::kind::number(found) as u64);
     of_asked(message::ask(found, m));
 }
 

@@ -14,7 +14,6 @@ use Rattle.channel.specs.declared.row.Sort.the-variants.{Free, Io, In, O
 use Rattle.channel.specs.declared.channel.Channel.{Channel}
 use Rattle.channel.specs.declared.channel.Found.{Found}
 use Rattle.channel.specs.declared.channel.Found.the-variants.{At, Nothing}
-use Rattle.channel.specs.declared.channel.Held.{Held}
 use Rattle.channel.specs.declared.channel.Held.the-variants as held
 
 -- what is read of a list where another element was put at a place: that element there, and elsewhere what was read before

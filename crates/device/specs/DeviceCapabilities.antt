@@ -1,7 +1,7 @@
 -- USB_DEVICE_CAPABILITIES (000 2.2.11).
 use Prim.Native.Nat.{ℕ, _+_, _*_, _/_}
 use mathlib.Core.List.{List}
-use mathlib.Core.Bool.{Bool, true, false, cond, not, _&&_, _||_}
+use mathlib.Core.Bool.{Bool, cond, not, _&&_, _||_}
 use lib.Dec.{eqb, ltb, leb}
 use Rattle.words.specs.Words.{wordAt}
 use Rattle.words.specs.Layout.{left}

@@ -1,13 +1,13 @@
 -- 01 "Header and kinds": the table of kinds, and the kind of a message.
 use Prim.Native.Nat.{ℕ}
 use mathlib.Core.List.{List, [], _∷_}
-use mathlib.Core.Bool.{Bool, true, false, cond, _&&_}
+use mathlib.Core.Bool.{Bool, false, cond, _&&_}
 use lib.Dec.{eqb}
 use Rattle.words.specs.declared.header.Header.{Header}
 use Rattle.words.specs.declared.ids.Known.{Known}
 use Rattle.words.specs.declared.ids.Known.the-variants as known
-use Rattle.words.specs.declared.kind.Kind.{Kind}
-use Rattle.words.specs.declared.kind.Kind.the-variants.{CapabilityRequest, CapabilityResponse, ChannelCreatedByServer, ChannelCreatedByClient, AddVirtualChannel, AddDevice, CancelRequest, RegisterRequestCallback, IoControl, InternalIoControl, TransferInRequest, TransferOutRequest, RetractDevice, IoControlCompletion, UrbCompletion, UrbCompletionNoData}
+use Rattle.answers.specs.declared.kind.Kind.{Kind}
+use Rattle.answers.specs.declared.kind.Kind.the-variants.{CapabilityRequest, CapabilityResponse, ChannelCreatedByServer, ChannelCreatedByClient, AddVirtualChannel, AddDevice, CancelRequest, RegisterRequestCallback, IoControl, InternalIoControl, TransferInRequest, TransferOutRequest, RetractDevice, IoControlCompletion, UrbCompletion, UrbCompletionNoData}
 use Rattle.kinds.specs.declared.kind.KindFound.{KindFound}
 use Rattle.kinds.specs.declared.kind.KindFound.the-variants.{Nothing, Is}
 

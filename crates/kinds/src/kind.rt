@@ -1,4 +1,5 @@
 // The kind of a message, by 01's table "Header and kinds": the first row that fits.
+use answers::kind::Kind;
 use wire::add_device::AddDevice;
 use wire::add_virtual_channel::AddVirtualChannel;
 use wire::cancel_request::CancelRequest;
@@ -16,7 +17,6 @@ use wire::urb_completion::UrbCompletion;
 use wire::urb_completion_no_data::UrbCompletionNoData;
 use words::header::Header;
 use words::ids::Known;
-use words::kind::Kind;
 ghost use mathlib.Core.Path.{_≡_};
 ghost use Rattle.kinds.specs.Kinds.{goesTo, callsAt, callsKnown, firstFitting, kinds, kindsFrom4, kindsFrom13, kindsFrom8, kindsFrom10, kindsFrom15};
 

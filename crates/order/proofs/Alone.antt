@@ -1,13 +1,13 @@
 -- A channel sees its own calls alone: what they give, and its state at the end, are those of a run of its own calls with their numbers.
-use mathlib.Core.Path.{_≡_, refl, sym, ap, _∙_}
+use mathlib.Core.Path.{_≡_, refl, sym}
 use mathlib.Core.Bool.{Bool, true, false}
 use mathlib.Core.List.{List, [], _∷_, map}
-use Prim.Native.Nat.{ℕ, zero, suc, _≤_, _<_}
+use Prim.Native.Nat.{ℕ, suc, _≤_, _<_}
 use lib.Dec.{eqb, ltb}
 use borrow.Author.Tests.{eqb-true, eqb-false, ltb-true, ltb-false}
 use lib.ListN.{length, getD, set, List·getD-eq-default}
 use lib.Seq.{getD-set-same, getD-set-other, set-out}
-use Rattle.order.specs.Machine.{Machine, Tagged, Given, calls, ends, givenOn, gives, keep, numbers, renG}
+use Rattle.order.specs.Machine.{Machine, Tagged, Given, calls, ends, givenOn, gives, numbers, renG}
 
 module _ (M : Machine) where
   -- one channel alone, its calls and their numbers given

@@ -4,10 +4,10 @@ use mathlib.Core.Path.{_≡_, refl, sym, ap, subst, _∙_}
 use mathlib.Core.Bool.{Bool, true, false, cond, true≢false}
 use mathlib.Core.Logic.{_≢_}
 use mathlib.Core.List.{List, [], _∷_, _++_, map}
-use Prim.Native.Nat.{ℕ, zero, suc, _≤_, _<_}
+use Prim.Native.Nat.{ℕ, zero, suc, _≤_}
 use lib.Dec.{eqb}
 use borrow.Author.Tests.{eq-eqb, eqb-false, eqb-true, ne-eqb}
-use lib.ListN.{length, getD, set, length-set, length-map, replicate, length-replicate, getD-replicate, List·getD-eq-default, List·getD-map}
+use lib.ListN.{length, getD, set, length-set, length-map, replicate, List·getD-map}
 use lib.Seq.{ext-getD}
 use Rattle.order.specs.Machine.{Machine, Tagged, calls, ends, givenOn, gives, keep, numbers, renG}
 use Rattle.order.specs.Reorder.{Reordered, Renumbers, SameUnder}

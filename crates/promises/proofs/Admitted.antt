@@ -5,11 +5,11 @@ use lib.ListN.{length}
 use lib.Dec.{eqb, ltb}
 use Rattle.words.proofs.Steps.{either}
 use Rattle.words.specs.Header.{headerOf}
-use Rattle.words.specs.Kind.{kindNumber}
+use Rattle.answers.specs.Kind.{kindNumber}
 use Rattle.words.specs.declared.header.HeaderRead.{HeaderRead}
 use Rattle.words.specs.declared.header.HeaderRead.the-variants as header
 use Rattle.words.specs.declared.ids.Known.{Known}
-use Rattle.words.specs.declared.kind.Kind.{Kind}
+use Rattle.answers.specs.declared.kind.Kind.{Kind}
 use Rattle.wire.specs.Message.{askedOf}
 use Rattle.kinds.specs.Kinds.{firstFitting, kinds}
 use Rattle.kinds.specs.declared.kind.KindFound.{KindFound}

@@ -1,5 +1,5 @@
 -- No byte of a payload decides anything.
-use Prim.Native.Nat.{ℕ, _+_, _≤_, _<_}
+use Prim.Native.Nat.{ℕ, _≤_, _<_}
 use native.Mathlib.Omega.{arith}
 use mathlib.Core.Path.{_≡_, refl, sym, ap, subst, _∙_}
 use mathlib.Core.Logic.{_⊎_, inl, inr}
@@ -8,14 +8,13 @@ use mathlib.Core.Bool.{Bool, true, false, cond}
 use lib.ListN.{length}
 use lib.Dec.{eqb, ltb}
 use borrow.Author.Tests.{ltb-true, ltb-false}
-use Rattle.words.proofs.Steps.{either}
 use Rattle.words.specs.Header.{headerOf}
-use Rattle.words.specs.Kind.{kindNumber}
-use Rattle.words.specs.Words.{byteAt, wordAt}
+use Rattle.answers.specs.Kind.{kindNumber}
+use Rattle.words.specs.Words.{byteAt}
 use Rattle.words.specs.declared.header.HeaderRead.{HeaderRead}
 use Rattle.words.specs.declared.header.HeaderRead.the-variants as header
 use Rattle.words.specs.declared.ids.Known.{Known}
-use Rattle.words.specs.declared.kind.Kind.{Kind}
+use Rattle.answers.specs.declared.kind.Kind.{Kind}
 use Rattle.words.specs.declared.layout.Part.{Part}
 use Rattle.wire.specs.Message.{askedOf, emptyPart}
 use Rattle.wire.specs.declared.message.Asked.{Asked}
@@ -28,7 +27,7 @@ use Rattle.kinds.specs.declared.kind.KindFound.{KindFound}
 use Rattle.kinds.specs.declared.kind.KindFound.the-variants as kind
 use Rattle.channel.specs.declared.channel.Channel.{Channel}
 use Rattle.answers.specs.Phase.{phasesOf}
-use Rattle.answers.specs.declared.answer.Answer.the-variants.{Long, NoKind, Short, WrongPhase}
+use Rattle.answers.specs.declared.answer.Answer.the-variants.{Long, Short, WrongPhase}
 use Rattle.rules.specs.Decide.{decided}
 use Rattle.rules.specs.declared.decide.Seen.{Seen}
 use Rattle.rules.specs.declared.verdict.Verdict.{Verdict}
@@ -39,7 +38,6 @@ use Rattle.turn.specs.declared.admit.Admitted.{Admitted}
 use Rattle.turn.specs.declared.admit.Admitted.the-variants.{Refused, Asks}
 use Rattle.table.specs.Payload.{shownBy, shownOf}
 use Rattle.table.specs.Table.{channelOf, judgedBy, judgeOf, noPlace, unnumbered, unplaced, usedUp}
-use Rattle.table.specs.declared.table.Judged.{Judged}
 use Rattle.table.specs.declared.table.Table.{Table}
 use Rattle.promises.proofs.Admitted.{admitted-has}
 use Rattle.promises.proofs.Decided.{cancelled-has, io-has, no-data-has, out-has, taken-has, urb-has}

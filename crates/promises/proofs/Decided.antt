@@ -3,12 +3,11 @@
 use Prim.Native.Nat.{ℕ, _≤_}
 use native.Mathlib.Omega.{arith}
 use mathlib.Core.Path.{_≡_, refl}
-use mathlib.Core.Bool.{cond}
 use lib.Dec.{eqb, ltb}
 use Rattle.words.proofs.Steps.{either}
-use Rattle.words.specs.Kind.{kindNumber}
+use Rattle.answers.specs.Kind.{kindNumber}
 use Rattle.words.specs.declared.ids.RequestId.{RequestId}
-use Rattle.words.specs.declared.kind.Kind.{Kind}
+use Rattle.answers.specs.declared.kind.Kind.{Kind}
 use Rattle.wire.specs.Message.{emptyPart}
 use Rattle.wire.specs.declared.message.IoCompleted.{IoCompleted}
 use Rattle.wire.specs.declared.message.Request.{Request}

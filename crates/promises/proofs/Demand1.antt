@@ -7,7 +7,6 @@ use lib.ListN.{getD, set}
 use lib.Dec.{ltb}
 use Rattle.words.proofs.Steps.{either}
 use Rattle.channel.specs.Rows.{newChannel, openCount}
-use Rattle.answers.specs.Answer.{answerNumber}
 use Rattle.answers.specs.declared.answer.Answer.the-variants as answer
 use Rattle.rules.specs.declared.verdict.Verdict.{Verdict}
 use Rattle.rules.specs.declared.verdict.Verdict.the-variants.{Refused, Accepted}

@@ -4,9 +4,9 @@ use native.Mathlib.Omega.{arith}
 use mathlib.Core.Path.{_≡_, refl}
 use mathlib.Core.List.{List}
 use mathlib.Core.Bool.{Bool, true, false, cond}
-use Rattle.words.specs.Kind.{kindNumber}
-use Rattle.words.specs.declared.kind.Kind.{Kind}
-use Rattle.words.specs.declared.kind.Kind.the-variants as kind
+use Rattle.answers.specs.Kind.{kindNumber}
+use Rattle.answers.specs.declared.kind.Kind.{Kind}
+use Rattle.answers.specs.declared.kind.Kind.the-variants as kind
 use Rattle.wire.specs.Message.{askedOf, asksBy}
 use Rattle.wire.specs.Reading.{readingOf, capabilityRequestReading, capabilityResponseReading, channelCreatedReading, addVirtualChannelReading, addDeviceReading, cancelRequestReading, registerRequestCallbackReading, ioControlReading, transferInRequestReading, transferOutRequestReading, retractDeviceReading, ioControlCompletionReading, urbCompletionReading, urbCompletionNoDataReading}
 use Rattle.wire.specs.CapabilityRequest.{capabilityRequestOf, capabilityRequestAllowed}

@@ -12,4 +12,5 @@ pub mod Runs
 pub mod Demand3
 pub mod Kinded
 pub mod Story
+pub mod Kept
 pub mod Names

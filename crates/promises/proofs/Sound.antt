@@ -11,14 +11,13 @@ use borrow.Author.Tests.{eqb-true, eqb-false}
 use Rattle.words.proofs.Steps.{either}
 use Rattle.words.specs.declared.ids.Known.the-variants as known
 use Rattle.words.specs.declared.ids.RequestId.{RequestId}
-use Rattle.words.specs.declared.kind.Kind.{Kind}
+use Rattle.answers.specs.declared.kind.Kind.{Kind}
 use Rattle.wire_laws.specs.Assigned.{Assigned, Given}
 use Rattle.wire.specs.declared.message.Asked.{Asked}
 use Rattle.wire.specs.declared.message.Asked.the-variants as asks
 use Rattle.wire.specs.declared.message.Request.{Request}
 use Rattle.wire_laws.proofs.Assigned.{assigned}
 use Rattle.channel.specs.Rows.{freeRow, heldOf, holds, holdsBy, lowestOf, newChannel, withRow}
-use Rattle.channel.specs.declared.row.Open.{Open}
 use Rattle.channel.specs.declared.row.Row.{Row}
 use Rattle.channel.specs.declared.row.Sort.{Sort}
 use Rattle.channel.specs.declared.row.Sort.the-variants.{Free, Io, In, Out}

@@ -7,9 +7,9 @@ use mathlib.Core.Bool.{Bool, true, false, false≢true, _||_}
 use lib.ListN.{getD}
 use lib.Dec.{eqb}
 use borrow.Author.Tests.{eqb-true}
-use Rattle.words.specs.Kind.{kindNumber}
+use Rattle.answers.specs.Kind.{kindNumber}
 use Rattle.words.specs.declared.ids.RequestId.{RequestId}
-use Rattle.words.specs.declared.kind.Kind.{Kind}
+use Rattle.answers.specs.declared.kind.Kind.{Kind}
 use Rattle.wire.specs.declared.message.Asked.{Asked}
 use Rattle.wire.specs.declared.message.Asked.the-variants as asks
 use Rattle.kinds.specs.Kinds.{kinds}

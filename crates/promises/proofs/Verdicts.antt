@@ -3,8 +3,8 @@ use Prim.Native.Nat.{ℕ, _≤_}
 use native.Mathlib.Omega.{arith}
 use mathlib.Core.Path.{_≡_, refl}
 use mathlib.Core.List.{List}
-use Rattle.words.specs.Kind.{kindNumber}
-use Rattle.words.specs.declared.kind.Kind.{Kind}
+use Rattle.answers.specs.Kind.{kindNumber}
+use Rattle.answers.specs.declared.kind.Kind.{Kind}
 use Rattle.wire.specs.declared.message.Asked.{Asked}
 use Rattle.wire.specs.declared.message.Asked.the-variants as asks
 use Rattle.channel.specs.declared.channel.Channel.{Channel}

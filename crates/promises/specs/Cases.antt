@@ -1,6 +1,6 @@
 -- 01 "Shown of the rules themselves": the cases C1 to C12, each with what the document says of it. Stamps are made up; no case has one.
 use Prim.Native.Nat.{ℕ, zero, suc, _+_}
-use mathlib.Core.List.{List, [], _∷_, map, _++_}
+use mathlib.Core.List.{List, [], _∷_, _++_}
 use lib.ListN.{replicate, take}
 use Rattle.words.specs.declared.ids.Known.the-variants as known
 use Rattle.words.specs.declared.ids.RequestId.{RequestId}
@@ -11,10 +11,8 @@ use Rattle.channel.specs.declared.row.Sort.the-variants.{In}
 use Rattle.answers.specs.Answer.{answerNumber}
 use Rattle.table.specs.Payload.{payloadOf}
 use Rattle.table.specs.Table.{channelOf, openOf}
-use Rattle.table.specs.declared.entry.Entry.{Entry}
 use Rattle.table.specs.declared.entry.Noted.{Noted}
 use Rattle.table.specs.declared.entry.Noted.the-variants.{Nothing, Is}
-use Rattle.table.specs.declared.table.Judged.{Judged}
 use Rattle.table.specs.declared.table.Table.{Table}
 use Rattle.journal.specs.Calls.{after, Asks, Call, called, closing, judging}
 

@@ -1,5 +1,5 @@
 -- Demand 1, and what 01 "Journal" says of every entry, of what a call gives.
-use Prim.Native.Nat.{ℕ, _+_, _≤_}
+use Prim.Native.Nat.{_+_, _≤_}
 use mathlib.Core.Path.{_≡_}
 use mathlib.Core.Logic.{_≢_}
 use Rattle.answers.specs.Answer.{answerNumber}

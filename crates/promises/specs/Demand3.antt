@@ -2,7 +2,6 @@
 use Prim.Native.Nat.{ℕ}
 use mathlib.Core.Path.{_≡_}
 use mathlib.Core.List.{List, [], _∷_, map}
-use mathlib.Core.Bool.{Bool}
 use lib.Dec.{eqb}
 use Rattle.table.specs.Table.{openOf}
 use Rattle.journal.specs.Calls.{after, Call}

@@ -8,7 +8,6 @@ use Rattle.channel.specs.declared.row.Open.{Open}
 use Rattle.channel.specs.declared.row.Row.{Row}
 use Rattle.channel.specs.declared.row.Sort.{Sort}
 use Rattle.channel.specs.declared.row.Sort.the-variants.{Free, Io, In, Out}
-use Rattle.answers.specs.Answer.{answerNumber}
 use Rattle.answers.specs.declared.answer.Answer.{Answer}
 use Rattle.answers.specs.declared.answer.Answer.the-variants.{Accepted, NoPlace}
 use Rattle.rules.specs.declared.verdict.Verdict.{Verdict}

@@ -4,7 +4,7 @@ use mathlib.Core.Bool.{Bool, cond}
 use lib.Dec.{ltb, eqb}
 use Rattle.words.specs.Hresult.{succeeded}
 use Rattle.words.specs.declared.ids.RequestId.{RequestId}
-use Rattle.words.specs.declared.kind.Kind.{Kind}
+use Rattle.answers.specs.declared.kind.Kind.{Kind}
 use Rattle.words.specs.declared.layout.Part.{Part}
 use Rattle.wire.specs.Message.{emptyPart}
 use Rattle.wire.specs.declared.message.IoCompleted.{IoCompleted}

@@ -1,6 +1,6 @@
 -- Answers 7 to 14 and 0, by what a message asks and what was found in the rows.
 use Prim.Native.Nat.{ℕ}
-use Rattle.words.specs.declared.kind.Kind.{Kind}
+use Rattle.answers.specs.declared.kind.Kind.{Kind}
 use Rattle.wire.specs.Message.{emptyPart}
 use Rattle.wire.specs.declared.message.Asked.{Asked}
 use Rattle.wire.specs.declared.message.Asked.the-variants as asks

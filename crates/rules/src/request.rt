@@ -4,6 +4,7 @@ use crate::verdict::Accepted;
 use crate::verdict::Act;
 use crate::verdict::Verdict;
 use answers::answer::Answer;
+use answers::kind::Kind;
 use answers::phase;
 use channel::channel::Found;
 use channel::channel::Held;
@@ -11,7 +12,6 @@ use channel::row::Open;
 use channel::row::Row;
 use channel::row::Sort;
 use wire::message::Request;
-use words::kind::Kind;
 ghost use mathlib.Core.Path.{_≡_};
 ghost use Rattle.rules.specs.Request.{opened, taken, transferOutDecided, unacknowledged};
 

@@ -1,11 +1,11 @@
 // What the rules say of a message: refused, or accepted and with what.
 use answers::answer::Answer;
+use answers::kind;
+use answers::kind::Kind;
 use answers::phase;
 use channel::row::Row;
 use words::ids::InterfaceId;
 use words::ids::Known;
-use words::kind;
-use words::kind::Kind;
 use words::layout::Part;
 ghost use mathlib.Core.Path.{_≡_};
 ghost use Rattle.rules.specs.Verdict.{accepted, refused};

@@ -6,24 +6,31 @@ use turn::step;
 use words::layout::Part;
 ghost use mathlib.Core.Path.{_≡_};
 ghost use denote.Ref.{ptr};
-ghost use Rattle.table.specs.Payload.{behind, cutOf, payloadOf, shownOf, startIn, startOf};
+ghost use Rattle.table.specs.Payload.{behind, cutOf, payloadOf, shownBy, shownOf, startIn, startOf};
+
+fn of_verdict(verdict: Verdict) -> Part
+    ensures { λ r. ⌜ r ≡ shownBy verdict ⌝ }
+{
+    match verdict {
+        Verdict::Refused(_, _) => Part { start: 0, size: 0 },
+        Verdict::Accepted(a) => a.payload,
+    }
+}
 
 // Where the payload lies; an empty part where the message is refused or has none.
 fn shown(table: Table, channel: u8, side: u8, m: &[u8]) -> Part
     ensures { λ r. ⌜ r ≡ shownOf table channel side (now (m .entry)) ⌝ }
 {
     let nothing = Part { start: 0, size: 0 };
-    if table::used_up(table.next) {
+    let number = table.next;
+    if table::used_up(number) {
         return nothing;
     }
     if table::no_place(channel, side) {
         return nothing;
     }
     let c = table.channels[channel as usize];
-    match step::judge(c, table.next, side, m) {
-        Verdict::Refused(_, _) => nothing,
-        Verdict::Accepted(a) => a.payload,
-    }
+    of_verdict(step::judge(c, number, side, m))
 }
 
 // The bytes of a part. A part that would reach beyond the message gives the empty part.

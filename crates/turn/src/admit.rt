@@ -1,5 +1,7 @@
 // Answers 3 to 6, which go by the message and the channel's phase and interfaces alone; then what the message asks.
 use answers::answer::Answer;
+use answers::kind;
+use answers::kind::Kind;
 use answers::phase;
 use kinds::kind::KindFound;
 use kinds::kind::kind_of;
@@ -9,8 +11,6 @@ use words::header;
 use words::header::Header;
 use words::header::HeaderRead;
 use words::ids::Known;
-use words::kind;
-use words::kind::Kind;
 ghost use mathlib.Core.Path.{_≡_};
 ghost use Rattle.turn.specs.Admit.{admitted, asksIn, fromHeader};
 

@@ -1,8 +1,8 @@
 -- The interfaces of a select URB, and their pipes (000 2.2.9.1.2, 2.2.9.1.3).
 use Prim.Native.Nat.{ℕ, zero, suc, _+_, _-_, _*_}
 use mathlib.Core.List.{List}
-use mathlib.Core.Bool.{Bool, true, false, cond}
-use lib.Dec.{ltb, leb, eqb}
+use mathlib.Core.Bool.{Bool, cond}
+use lib.Dec.{ltb, eqb}
 use Rattle.words.specs.Words.{halfAt, wordAt}
 use Rattle.words.specs.Layout.{left}
 use Rattle.urb.specs.declared.interfaces.Walk.{Walk}

@@ -1,9 +1,8 @@
 -- TS_URB_ISOCH_TRANSFER (000 2.2.9.8). u is the message up to the end of its TsUrb.
 use Prim.Native.Nat.{ℕ, _+_, _*_}
 use mathlib.Core.List.{List}
-use mathlib.Core.Bool.{Bool}
 use lib.ListN.{length}
-use lib.Dec.{leb, eqb}
+use lib.Dec.{eqb}
 use Rattle.words.specs.Words.{wordAt}
 use Rattle.words.specs.Layout.{left, agrees, atLeast}
 use Rattle.urb.specs.declared.isoch_transfer.IsochTransfer.{IsochTransfer}

@@ -1,9 +1,9 @@
 -- TS_URB_SELECT_CONFIGURATION (000 2.2.9.2). u is the message up to the end of its TsUrb.
 use Prim.Native.Nat.{ℕ, _+_, _-_}
 use mathlib.Core.List.{List}
-use mathlib.Core.Bool.{Bool, cond, _&&_, _||_}
+use mathlib.Core.Bool.{cond}
 use lib.ListN.{length}
-use lib.Dec.{ltb, leb, eqb}
+use lib.Dec.{eqb}
 use Rattle.words.specs.Words.{byteAt, wordAt}
 use Rattle.words.specs.Layout.{left, field}
 use Rattle.urb.specs.Interfaces.{interfacesOf}

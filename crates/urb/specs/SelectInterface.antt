@@ -1,7 +1,6 @@
 -- TS_URB_SELECT_INTERFACE (000 2.2.9.3). u is the message up to the end of its TsUrb.
-use Prim.Native.Nat.{ℕ, _+_, _-_}
+use Prim.Native.Nat.{ℕ, _-_}
 use mathlib.Core.List.{List}
-use mathlib.Core.Bool.{Bool}
 use Rattle.words.specs.Words.{wordAt}
 use Rattle.words.specs.Layout.{field}
 use Rattle.urb.specs.Interfaces.{interfacesOf}

@@ -1,9 +1,9 @@
 -- A TS_URB (000 2.2.9). u is the message up to the end of its TsUrb, which starts at byte 16.
-use Prim.Native.Nat.{ℕ, _+_, _-_, _*_}
+use Prim.Native.Nat.{ℕ, _-_}
 use mathlib.Core.List.{List, [], _∷_}
-use mathlib.Core.Bool.{Bool, true, false, cond}
+use mathlib.Core.Bool.{cond}
 use lib.ListN.{length}
-use lib.Dec.{ltb, leb, eqb}
+use lib.Dec.{eqb}
 use Rattle.words.specs.Words.{halfAt, wordAt}
 use Rattle.words.specs.Ids.{urbRequestIn, noAckIn}
 use Rattle.words.specs.Layout.{left, agrees}
@@ -11,7 +11,7 @@ use Rattle.urb.specs.SelectConfiguration.{selectConfigurationOf}
 use Rattle.urb.specs.SelectInterface.{selectInterfaceOf}
 use Rattle.urb.specs.IsochTransfer.{isochTransferOf}
 use Rattle.urb.specs.declared.ts_urb.Urb.{Urb}
-use Rattle.urb.specs.declared.ts_urb.Urb.the-variants.{SelectConfiguration, SelectInterface, GetCurrentFrameNumber, PipeRequest, BulkOrInterruptTransfer, ControlTransfer, IsochTransfer, Unknown}
+use Rattle.urb.specs.declared.ts_urb.Urb.the-variants.{GetCurrentFrameNumber, PipeRequest, BulkOrInterruptTransfer, ControlTransfer, Unknown}
 use Rattle.urb.specs.declared.ts_urb.StructureRead.{StructureRead}
 use Rattle.urb.specs.declared.ts_urb.StructureRead.the-variants.{Fits, Fails}
 use Rattle.urb.specs.declared.ts_urb.TsUrbRead.{TsUrbRead}

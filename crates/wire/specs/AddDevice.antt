@@ -1,8 +1,8 @@
 -- ADD_DEVICE (000 2.2.4.2), kind 6.
-use Prim.Native.Nat.{ℕ, _+_}
+use Prim.Native.Nat.{ℕ}
 use mathlib.Core.List.{List}
 use mathlib.Core.Bool.{Bool, _&&_}
-use lib.Dec.{eqb, leb}
+use lib.Dec.{eqb}
 use Rattle.words.specs.Words.{wordAt}
 use Rattle.words.specs.Ids.{assignable, interfaceIn, maskIn}
 use Rattle.words.specs.Layout.{field, ended}

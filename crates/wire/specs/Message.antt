@@ -2,7 +2,7 @@
 use Prim.Native.Nat.{ℕ}
 use mathlib.Core.List.{List}
 use mathlib.Core.Bool.{false, cond}
-use Rattle.words.specs.declared.kind.Kind.{Kind}
+use Rattle.answers.specs.declared.kind.Kind.{Kind}
 use Rattle.words.specs.declared.layout.Part.{Part}
 use Rattle.wire.specs.CapabilityRequest.{capabilityRequestAllowed}
 use Rattle.wire.specs.CapabilityResponse.{capabilityResponseAllowed}

@@ -57,8 +57,8 @@ use Rattle.wire.specs.declared.urb_completion.UrbCompletionRead.the-vari
 use Rattle.wire.specs.declared.urb_completion_no_data.UrbCompletionNoDataRead.{UrbCompletionNoDataRead}
 use Rattle.wire.specs.declared.urb_completion_no_data.UrbCompletionNoDataRead.the-variants as urbCompletionNoData
 use Rattle.words.specs.declared.layout.Fault.{Fault}
-use Rattle.words.specs.declared.kind.Kind.{Kind}
-use Rattle.words.specs.declared.kind.Kind.the-variants as kind
+use Rattle.answers.specs.declared.kind.Kind.{Kind}
+use Rattle.answers.specs.declared.kind.Kind.the-variants as kind
 
 pub data Body : Type 0 where
   capabilityRequestBody : CapabilityRequest → Body

@@ -2,7 +2,7 @@
 use Prim.Native.Nat.{ℕ}
 use mathlib.Core.List.{List}
 use mathlib.Core.Bool.{Bool, true, cond}
-use lib.Dec.{eqb, leb}
+use lib.Dec.{eqb}
 use Rattle.words.specs.Words.{wordAt}
 use Rattle.words.specs.Ids.{assignable, interfaceIn, maskIn}
 use Rattle.words.specs.Layout.{field, ended}

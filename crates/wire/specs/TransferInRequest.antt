@@ -1,12 +1,11 @@
 -- TRANSFER_IN_REQUEST (000 2.2.6.7), kind 10.
 use Prim.Native.Nat.{ℕ}
 use mathlib.Core.List.{List}
-use mathlib.Core.Bool.{Bool, true, false, cond, not, _&&_}
+use mathlib.Core.Bool.{Bool, true, cond, not, _&&_}
 use lib.Dec.{eqb}
 use Rattle.words.specs.Layout.{ended, filled}
 use Rattle.wire.specs.Transfer.{transferOf}
 use Rattle.urb_values.specs.Values.{urbAllowed, onlyIn}
-use Rattle.wire.specs.declared.transfer.Transfer.{Transfer}
 use Rattle.wire.specs.declared.transfer.TransferRead.{TransferRead}
 use Rattle.wire.specs.declared.transfer.TransferRead.the-variants as transfer
 use Rattle.wire.specs.declared.transfer_in_request.TransferInRequest.{TransferInRequest}

@@ -1,7 +1,7 @@
 -- TRANSFER_OUT_REQUEST (000 2.2.6.8), kind 11.
 use Prim.Native.Nat.{ℕ, _+_}
 use mathlib.Core.List.{List}
-use mathlib.Core.Bool.{Bool, true, false, cond, not, _&&_}
+use mathlib.Core.Bool.{Bool, true, cond, not, _&&_}
 use Rattle.words.specs.Layout.{field, ended, filled}
 use Rattle.wire.specs.Transfer.{transferOf}
 use Rattle.urb_values.specs.Values.{urbAllowed, onlyIn, mayNoAck}

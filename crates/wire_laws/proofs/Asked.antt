@@ -6,8 +6,7 @@ use mathlib.Core.Logic.{_⊎_, inl, inr}
 use mathlib.Core.List.{List}
 use mathlib.Core.Bool.{Bool, true, false, cond}
 use lib.ListN.{length}
-use Rattle.words.specs.declared.kind.Kind.{Kind}
-use Rattle.words.specs.declared.layout.Part.{Part}
+use Rattle.answers.specs.declared.kind.Kind.{Kind}
 use Rattle.wire.specs.CapabilityRequest.{capabilityRequestAllowed}
 use Rattle.wire.specs.CapabilityResponse.{capabilityResponseAllowed}
 use Rattle.wire.specs.ChannelCreated.{channelCreatedAllowed}

@@ -7,7 +7,7 @@ use lib.Dec.{eqb}
 use Rattle.words.specs.Ids.{assignable}
 use Rattle.words.specs.declared.ids.Known.{Known}
 use Rattle.words.specs.declared.ids.Known.the-variants as known
-use Rattle.words.specs.declared.kind.Kind.{Kind}
+use Rattle.answers.specs.declared.kind.Kind.{Kind}
 use Rattle.wire.specs.CapabilityRequest.{capabilityRequestAllowed}
 use Rattle.wire.specs.CapabilityResponse.{capabilityResponseAllowed}
 use Rattle.wire.specs.ChannelCreated.{channelCreatedAllowed}

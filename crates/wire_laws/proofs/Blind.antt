@@ -1,15 +1,14 @@
 -- The size reader looks at no byte of a payload: two messages that differ only there read as the same body.
-use Prim.Native.Nat.{ℕ, _+_, _-_, _*_, _≤_, _<_}
+use Prim.Native.Nat.{ℕ, _+_, _-_, _≤_, _<_}
 use native.Mathlib.Omega.{arith}
 use mathlib.Core.Path.{_≡_, refl, sym, subst, ap, _∙_}
 use mathlib.Core.List.{List}
 use mathlib.Core.Bool.{Bool, true, false}
 use lib.Dec.{eqb, ltb}
 use borrow.Author.Tests.{ltb-false, ltb-true}
-use lib.ListN.{length, getD, take, length-take}
-use lib.Seq.{ext-getD, getD-take, length-take-le}
+use lib.ListN.{length, take, length-take}
+use lib.Seq.{ext-getD, getD-take}
 use Rattle.words.specs.Words.{byteAt, halfAt, wordAt}
-use Rattle.words.specs.Layout.{left}
 use Rattle.wire_laws.specs.Payload.{AgreeOutside, dataRun}
 use Rattle.wire.specs.CapabilityRequest.{capabilityRequestOf}
 use Rattle.wire.specs.CapabilityResponse.{capabilityResponseOf}
@@ -35,38 +34,23 @@ use Rattle.wire.specs.TsUrbResult.{completedOf, completionWith, completionOf}
 use Rattle.wire.specs.UrbCompletion.{withOutputOf, withOutputFrom, urbCompletionOf}
 use Rattle.wire.specs.UrbCompletionNoData.{noDataFrom, urbCompletionNoDataOf}
 use Rattle.wire.specs.Reading.{Body, Reading, Fits, Fails, readingOf, capabilityRequestReading, capabilityResponseReading, channelCreatedReading, addVirtualChannelReading, addDeviceReading, cancelRequestReading, registerRequestCallbackReading, ioControlReading, transferInRequestReading, transferOutRequestReading, retractDeviceReading, ioControlCompletionReading, urbCompletionReading, urbCompletionNoDataReading}
-use Rattle.wire.specs.declared.capability_request.CapabilityRequestRead.{CapabilityRequestRead}
 use Rattle.wire.specs.declared.capability_request.CapabilityRequestRead.the-variants as capabilityRequest
-use Rattle.wire.specs.declared.capability_response.CapabilityResponseRead.{CapabilityResponseRead}
 use Rattle.wire.specs.declared.capability_response.CapabilityResponseRead.the-variants as capabilityResponse
-use Rattle.wire.specs.declared.channel_created.ChannelCreatedRead.{ChannelCreatedRead}
 use Rattle.wire.specs.declared.channel_created.ChannelCreatedRead.the-variants as channelCreated
-use Rattle.wire.specs.declared.add_virtual_channel.AddVirtualChannelRead.{AddVirtualChannelRead}
 use Rattle.wire.specs.declared.add_virtual_channel.AddVirtualChannelRead.the-variants as addVirtualChannel
-use Rattle.wire.specs.declared.add_device.AddDeviceRead.{AddDeviceRead}
 use Rattle.wire.specs.declared.add_device.AddDeviceRead.the-variants as addDevice
-use Rattle.wire.specs.declared.cancel_request.CancelRequestRead.{CancelRequestRead}
 use Rattle.wire.specs.declared.cancel_request.CancelRequestRead.the-variants as cancelRequest
-use Rattle.wire.specs.declared.register_request_callback.RegisterRequestCallbackRead.{RegisterRequestCallbackRead}
 use Rattle.wire.specs.declared.register_request_callback.RegisterRequestCallbackRead.the-variants as registerRequestCallback
-use Rattle.wire.specs.declared.io_control.IoControlRead.{IoControlRead}
 use Rattle.wire.specs.declared.io_control.IoControlRead.the-variants as ioControl
-use Rattle.wire.specs.declared.transfer_in_request.TransferInRequestRead.{TransferInRequestRead}
 use Rattle.wire.specs.declared.transfer_in_request.TransferInRequestRead.the-variants as transferInRequest
-use Rattle.wire.specs.declared.transfer_out_request.TransferOutRequestRead.{TransferOutRequestRead}
 use Rattle.wire.specs.declared.transfer_out_request.TransferOutRequestRead.the-variants as transferOutRequest
-use Rattle.wire.specs.declared.retract_device.RetractDeviceRead.{RetractDeviceRead}
 use Rattle.wire.specs.declared.retract_device.RetractDeviceRead.the-variants as retractDevice
-use Rattle.wire.specs.declared.io_control_completion.IoControlCompletionRead.{IoControlCompletionRead}
 use Rattle.wire.specs.declared.io_control_completion.IoControlCompletionRead.the-variants as ioControlCompletion
-use Rattle.wire.specs.declared.urb_completion.UrbCompletionRead.{UrbCompletionRead}
 use Rattle.wire.specs.declared.urb_completion.UrbCompletionRead.the-variants as urbCompletion
-use Rattle.wire.specs.declared.urb_completion_no_data.UrbCompletionNoDataRead.{UrbCompletionNoDataRead}
 use Rattle.wire.specs.declared.urb_completion_no_data.UrbCompletionNoDataRead.the-variants as urbCompletionNoData
-use Rattle.words.specs.declared.kind.Kind.{Kind}
+use Rattle.answers.specs.declared.kind.Kind.{Kind}
 use Rattle.words.specs.declared.layout.Part.{Part}
-use Rattle.words.specs.declared.kind.Kind.the-variants as kind
-use Rattle.words.specs.declared.layout.Fault.{Fault}
+use Rattle.answers.specs.declared.kind.Kind.the-variants as kind
 use Rattle.urb.specs.declared.ts_urb.TsUrbRead.{TsUrbRead}
 use Rattle.urb.specs.declared.ts_urb.TsUrbRead.the-variants as ts
 use Rattle.wire.specs.declared.transfer.TransferRead.{TransferRead}

@@ -1,14 +1,12 @@
 -- Laws of the size reader: a message that fits is as long as its fields add up to, and its parts lie within it.
-use Prim.Native.Nat.{ℕ, _+_, _-_, _*_, _≤_}
+use Prim.Native.Nat.{ℕ, _+_, _-_, _≤_}
 use native.Mathlib.Omega.{arith}
 use mathlib.Core.Path.{_≡_, refl, subst}
-use mathlib.Core.List.{List, [], _∷_}
-use mathlib.Core.Bool.{Bool, true, false, cond}
+use mathlib.Core.List.{List}
 use lib.ListN.{length, take}
 use lib.Seq.{length-take-le}
-use lib.Dec.{ltb, eqb}
-use borrow.Author.Tests.{ltb-true, ltb-false, eqb-true}
-use Rattle.words.specs.Words.{byteAt, halfAt, wordAt}
+use lib.Dec.{eqb}
+use Rattle.words.specs.Words.{halfAt, wordAt}
 use Rattle.words.specs.Layout.{left, Within}
 use Rattle.wire_laws.specs.Device.{textSize}
 use Rattle.wire_laws.specs.Urb.{UrbWithin, urbLength}
@@ -61,10 +59,8 @@ use Rattle.wire.specs.declared.urb_completion.UrbCompletionRead.{UrbCompletionR
 use Rattle.wire.specs.declared.urb_completion.UrbCompletionRead.the-variants as urbCompletion
 use Rattle.wire.specs.declared.urb_completion_no_data.UrbCompletionNoDataRead.{UrbCompletionNoDataRead}
 use Rattle.wire.specs.declared.urb_completion_no_data.UrbCompletionNoDataRead.the-variants as urbCompletionNoData
-use Rattle.words.specs.declared.kind.Kind.{Kind}
-use Rattle.words.specs.declared.kind.Kind.the-variants as kind
-use Rattle.words.specs.declared.layout.Fault.{Fault}
-use Rattle.words.specs.declared.layout.Fault.the-variants.{RanOut, Disagrees, LeftOver}
+use Rattle.answers.specs.declared.kind.Kind.{Kind}
+use Rattle.answers.specs.declared.kind.Kind.the-variants as kind
 use Rattle.device.specs.declared.text.Text.{Text}
 use Rattle.device.specs.declared.text.TextRead.{TextRead}
 use Rattle.device.specs.declared.text.TextRead.the-variants as text

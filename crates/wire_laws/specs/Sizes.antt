@@ -1,5 +1,5 @@
 -- What the fields of a body add up to, and that its parts lie within its message. No contract cites this file: the laws of proofs/Laws.antt do.
-use Prim.Native.Nat.{ℕ, _+_, _*_, _≤_}
+use Prim.Native.Nat.{ℕ, _+_}
 use mathlib.Core.Bool.{cond}
 use lib.Dec.{eqb}
 use Rattle.words.specs.Layout.{Within}

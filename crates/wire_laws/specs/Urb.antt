@@ -1,5 +1,5 @@
 -- The parts of a TsUrb, and what its fields add up to. No contract cites this file: the laws do.
-use Prim.Native.Nat.{ℕ, _+_, _≤_}
+use Prim.Native.Nat.{ℕ, _+_}
 use Rattle.words.specs.Layout.{Within}
 use Rattle.urb.specs.declared.ts_urb.Urb.{Urb}
 use Rattle.urb.specs.declared.ts_urb.Urb.the-variants.{SelectConfiguration, SelectInterface, GetCurrentFrameNumber, PipeRequest, BulkOrInterruptTransfer, ControlTransfer, IsochTransfer, Unknown}

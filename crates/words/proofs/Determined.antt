@@ -34,8 +34,6 @@ use Rattle.words.proofs.ids.InterfaceId.assignable.Reads as assignable
 use Rattle.words.proofs.ids.InterfaceId.assignable.Kinds as assignable-kinds
 use Rattle.words.proofs.hresult.is_success.Reads as is-success
 use Rattle.words.proofs.hresult.is_success.Kinds as is-success-kinds
-use Rattle.words.proofs.kind.number.Reads as kind-number
-use Rattle.words.proofs.kind.number.Kinds as kind-number-kinds
 use Rattle.words.proofs.header.read.Reads as header-read
 use Rattle.words.proofs.header.read.Kinds as header-read-kinds
 
@@ -92,6 +90,3 @@ assignable-determined = record { asks-nothing = λ κs a. tt; one-result = λ κ
 
 pub is-success-determined : Determined 0 is-success-kinds.ps is-success-kinds.r is-success.Pre is-success.Post
 is-success-determined = record { asks-nothing = λ κs a. tt; one-result = λ κs a x y s t p q. same x y _ p q }
-
-pub kind-number-determined : Determined 0 kind-number-kinds.ps kind-number-kinds.r kind-number.Pre kind-number.Post
-kind-number-determined = record { asks-nothing = λ κs a. tt; one-result = λ κs a x y s t p q. same x y _ p q }

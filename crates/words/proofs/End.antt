@@ -1,5 +1,5 @@
 -- Past the end of a message every number is 0.
-use Prim.Native.Nat.{ℕ, _+_, _*_, _≤_}
+use Prim.Native.Nat.{ℕ, _+_, _≤_}
 use native.Mathlib.Omega.{arith}
 use mathlib.Core.Path.{_≡_, sym}
 use mathlib.Core.List.{List}

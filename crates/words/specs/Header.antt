@@ -6,7 +6,6 @@ use lib.ListN.{length}
 use lib.Dec.{ltb}
 use Rattle.words.specs.Words.{wordAt}
 use Rattle.words.specs.Ids.{interfaceIn, maskIn, messageIn}
-use Rattle.words.specs.declared.header.Header.{Header}
 use Rattle.words.specs.declared.header.HeaderRead.{HeaderRead}
 use Rattle.words.specs.declared.header.HeaderRead.the-variants.{Short, Is}
 

@@ -2,7 +2,7 @@
 -- `fails` makes the answer of the reader at hand out of the fault.
 use Prim.Native.Nat.{ℕ, _+_, _-_, _≤_}
 use mathlib.Core.List.{List}
-use mathlib.Core.Bool.{Bool, true, false, cond}
+use mathlib.Core.Bool.{Bool, cond}
 use lib.ListN.{length}
 use lib.Dec.{ltb}
 use Rattle.words.specs.declared.layout.Part.{Part}

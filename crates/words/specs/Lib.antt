@@ -3,4 +3,3 @@ pub mod Ids
 pub mod Layout
 pub mod Header
 pub mod Hresult
-pub mod Kind

@@ -2,6 +2,5 @@
 pub mod header;
 pub mod hresult;
 pub mod ids;
-pub mod kind;
 pub mod layout;
 pub mod numbers;

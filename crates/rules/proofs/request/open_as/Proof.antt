@@ -1,5 +1,4 @@
 -- `rules::request::open_as` meets its contract.
-use borrow.Author.Needs.{needs}
 use Rattle.rules.specs.Request.{opened}
 use Rattle.rules.proofs.request.open_as.Statement.{statement}
 use Rattle.rules.proofs.request.open_as.Tie as tie

@@ -23,6 +23,4 @@ shown-spec =
     (λ c. search (needs, placed-here c))
     (search needs)
     (search needs)
-    (search needs)
-    (λ c. rw (← (c .before .before .before .before .before .before .before .used-up .ensures), c .before .before .before .before .before .before .if1 .left, ← (c .before .before .before .before .before .no-place .ensures), c .before .before .before .before .if2 .left, ← (c .before .before .judge .ensures), c .enum-told .given .1))
-    (λ c. rw (← (c .before .before .before .before .before .before .before .before .before .used-up .ensures), c .before .before .before .before .before .before .before .before .if1 .left, ← (c .before .before .before .before .before .before .before .no-place .ensures), c .before .before .before .before .before .before .if2 .left, ← (c .before .before .before .before .judge .ensures), c .before .before .a .given .1)))
+    (λ c. rw (← (c .before .before .before .before .before .before .used-up .ensures), c .before .before .before .before .before .if1 .left, ← (c .before .before .before .before .no-place .ensures), c .before .before .before .if2 .left, ← (c .before .judge .ensures)) (c .of-verdict .ensures)))

@@ -1,7 +1,6 @@
 -- The cycle {interface, pipe}: one measure, twice the bytes that are left, and one more in `pipe`.
 use Prim.Native.Nat.{ℕ, _<_, _-_, _+_, _*_}
 use lib.ListN.{length}
-use native.Mathlib.Omega.{arith}
 use borrow.Author.Needs.{needs}
 use borrow.Author.Tests.{lt-ltb, le-ltb, ne-eqb}
 use borrow.Fn.Kinds.{In}

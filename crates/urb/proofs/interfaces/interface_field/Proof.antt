@@ -1,5 +1,4 @@
 -- `urb::interfaces::interface_field` meets its contract: at each `return` the tests and calls before it say which case of the definition holds.
-use borrow.Author.Needs.{needs}
 use Rattle.words.proofs.Tests.{tests}
 use Rattle.urb.proofs.interfaces.interface_field.Statement.{statement}
 use Rattle.urb.proofs.interfaces.interface_field.Tie as tie

@@ -1,5 +1,4 @@
 -- `urb::interfaces::larger_of` meets its contract: at each `return` the tests and calls before it say which case of the definition holds.
-use borrow.Author.Needs.{needs}
 use Rattle.words.proofs.Tests.{tests}
 use Rattle.urb.proofs.interfaces.larger_of.Statement.{statement}
 use Rattle.urb.proofs.interfaces.larger_of.Tie as tie

@@ -1,11 +1,9 @@
 -- `urb::select_configuration::read` meets its contract: the walk's end lies behind its start.
 use Prim.Native.Nat.{_≤_}
 use mathlib.Core.Path.{sym, _∙_}
-use native.Mathlib.Omega.{arith}
 use borrow.Author.Needs.{needs}
 use borrow.Author.Tests.{lt-ltb, le-ltb}
 use Rattle.urb.specs.SelectConfiguration.{selectConfigurationOf}
-use Rattle.words.proofs.Tests.{tests}
 use Rattle.urb.proofs.Walk.{interfaces-end}
 use Rattle.urb.proofs.select_configuration.read.Statement.{statement}
 use Rattle.urb.proofs.select_configuration.read.Tie as tie

@@ -1,7 +1,6 @@
 -- `urb::select_interface::read` meets its contract: the walk's end lies behind its start.
 use Prim.Native.Nat.{_≤_}
 use mathlib.Core.Path.{sym, _∙_}
-use native.Mathlib.Omega.{arith}
 use borrow.Author.Needs.{needs}
 use borrow.Author.Tests.{lt-ltb, le-ltb}
 use Rattle.urb.specs.SelectInterface.{selectInterfaceOf}

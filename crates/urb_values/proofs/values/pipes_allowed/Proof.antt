@@ -1,5 +1,4 @@
 -- `urb_values::values::pipes_allowed` meets its contract: it makes the test of the rule.
-use borrow.Author.Needs.{needs}
 use Rattle.words.proofs.Tests.{tests}
 use Rattle.urb_values.proofs.values.pipes_allowed.Statement.{statement}
 use Rattle.urb_values.proofs.values.pipes_allowed.Tie as tie

@@ -1,5 +1,4 @@
 -- `wire::channel_created::allowed` meets its contract: at each `return` the tests and calls before it say which case of the definition holds.
-use borrow.Author.Needs.{needs}
 use Rattle.words.proofs.Tests.{tests}
 use Rattle.wire.proofs.channel_created.allowed.Statement.{statement}
 use Rattle.wire.proofs.channel_created.allowed.Tie as tie

@@ -1,6 +1,5 @@
 -- `wire::io_control::ask` meets its contract: what its body reads as, in each arm.
 use borrow.Author.Needs.{needs}
-use Rattle.wire.specs.IoControl.{ioControlOf, ioControlWith}
 use Rattle.wire.proofs.io_control.ask.Statement.{statement}
 use Rattle.wire.proofs.io_control.ask.Tie as tie
 

@@ -1,6 +1,5 @@
 -- `wire::io_control_completion::ask` meets its contract: what its body reads as, in each arm.
 use borrow.Author.Needs.{needs}
-use Rattle.wire.specs.IoControlCompletion.{ioControlCompletionOf, ioControlCompletionWith}
 use Rattle.wire.proofs.io_control_completion.ask.Statement.{statement}
 use Rattle.wire.proofs.io_control_completion.ask.Tie as tie
 

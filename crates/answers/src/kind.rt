@@ -1,6 +1,6 @@
 // The kinds that have a row in 01's table, and their numbers. 12, an accepted transfer out with NoAck, and 18, a close, have none there.
 ghost use mathlib.Core.Path.{_≡_};
-ghost use Rattle.words.specs.Kind.{kindNumber};
+ghost use Rattle.answers.specs.Kind.{kindNumber};
 
 pub enum Kind {
     CapabilityRequest,

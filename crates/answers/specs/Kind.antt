@@ -1,7 +1,7 @@
 -- 01's number of each kind.
 use Prim.Native.Nat.{ℕ}
-use Rattle.words.specs.declared.kind.Kind.{Kind}
-use Rattle.words.specs.declared.kind.Kind.the-variants.{CapabilityRequest, CapabilityResponse, ChannelCreatedByServer, ChannelCreatedByClient, AddVirtualChannel, AddDevice, CancelRequest, RegisterRequestCallback, IoControl, InternalIoControl, TransferInRequest, TransferOutRequest, RetractDevice, IoControlCompletion, UrbCompletion, UrbCompletionNoData}
+use Rattle.answers.specs.declared.kind.Kind.{Kind}
+use Rattle.answers.specs.declared.kind.Kind.the-variants.{CapabilityRequest, CapabilityResponse, ChannelCreatedByServer, ChannelCreatedByClient, AddVirtualChannel, AddDevice, CancelRequest, RegisterRequestCallback, IoControl, InternalIoControl, TransferInRequest, TransferOutRequest, RetractDevice, IoControlCompletion, UrbCompletion, UrbCompletionNoData}
 
 abbrev pub kindNumber : Kind → ℕ
 kindNumber CapabilityRequest = 1
