@@ -1,21 +1,21 @@
 // What the readers say of one message, as the rest of a line.
 use answers::kind::Kind;
+use header::ids::Known;
+use header::ids::RequestId;
+use header::shared_msg_header;
+use header::shared_msg_header::Header;
+use header::shared_msg_header::HeaderRead;
 use kinds::kind;
 use kinds::kind::KindFound;
 use wire::message;
 use wire::message::Asked;
 use wire::message::IoCompleted;
 use wire::message::Request;
-use words::header;
-use words::header::Header;
-use words::header::HeaderRead;
-use words::ids::Known;
-use words::ids::RequestId;
 use words::layout::Fault;
 use words::layout::Part;
 
 pub(crate) fn of_message(m: &[u8], side: u8, device: Known, callback: Known) {
-    match header::read(m) {
+    match shared_msg_header::read(m) {
         HeaderRead::Short => {
             io::write_all(1, b" short");
         }

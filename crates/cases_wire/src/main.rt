@@ -9,9 +9,9 @@
 //    7  callback             4
 //   11  size of the message  4
 //   15  message
-use words::header;
-use words::header::HeaderRead;
-use words::ids::Known;
+use header::ids::Known;
+use header::shared_msg_header;
+use header::shared_msg_header::HeaderRead;
 
 mod line;
 
@@ -80,7 +80,7 @@ fn known(flag: u8, a: u8, b: u8, c: u8, d: u8) -> Known {
         return Known::Nothing;
     }
     let bytes = [a, b, c, d, 0, 0, 0, 0, 0, 0, 0, 0];
-    match header::read(&bytes) {
+    match shared_msg_header::read(&bytes) {
         HeaderRead::Short => Known::Nothing,
         HeaderRead::Is(h) => {
             let id = h.interface;

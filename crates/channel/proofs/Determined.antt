@@ -2,12 +2,6 @@
 use Rattle.words.proofs.Determined.{Determined, same}
 use Rattle.channel.proofs.channel.new.Reads as new
 use Rattle.channel.proofs.channel.new.Kinds as new-kinds
-use Rattle.channel.proofs.channel.under.Reads as under
-use Rattle.channel.proofs.channel.under.Kinds as under-kinds
-use Rattle.channel.proofs.channel.lowest_free.Reads as lowest-free
-use Rattle.channel.proofs.channel.lowest_free.Kinds as lowest-free-kinds
-use Rattle.channel.proofs.channel.count_open.Reads as count-open
-use Rattle.channel.proofs.channel.count_open.Kinds as count-open-kinds
 use Rattle.channel.proofs.channel.put.Reads as put
 use Rattle.channel.proofs.channel.put.Kinds as put-kinds
 use Rattle.channel.proofs.channel.empty.Reads as empty
@@ -15,15 +9,6 @@ use Rattle.channel.proofs.channel.empty.Kinds as empty-kinds
 
 pub new-determined : Determined 0 new-kinds.ps new-kinds.r new.Pre new.Post
 new-determined = record { asks-nothing = λ κs a. tt; one-result = λ κs a x y s t p q. same x y _ p q }
-
-pub under-determined : Determined 0 under-kinds.ps under-kinds.r under.Pre under.Post
-under-determined = record { asks-nothing = λ κs a. tt; one-result = λ κs a x y s t p q. same x y _ p q }
-
-pub lowest-free-determined : Determined 0 lowest-free-kinds.ps lowest-free-kinds.r lowest-free.Pre lowest-free.Post
-lowest-free-determined = record { asks-nothing = λ κs a. tt; one-result = λ κs a x y s t p q. same x y _ p q }
-
-pub count-open-determined : Determined 0 count-open-kinds.ps count-open-kinds.r count-open.Pre count-open.Post
-count-open-determined = record { asks-nothing = λ κs a. tt; one-result = λ κs a x y s t p q. same x y _ p q }
 
 pub put-determined : Determined 0 put-kinds.ps put-kinds.r put.Pre put.Post
 put-determined = record { asks-nothing = λ κs a. tt; one-result = λ κs a x y s t p q. same x y _ p q }

@@ -9,15 +9,15 @@
 // Two bytes on standard input make it that many interfaces, little-endian, in a message of the same length: tools/deep-list finds how
 // little stack each runs in. Compiled, the readers' calls are calls and not jumps, since each hands its slice on by way of its own frame:
 // an interface with no pipes costs two frames, 128 bytes, and the longest list under 700 KiB beside the message.
+use header::ids::Known;
+use header::shared_msg_header;
+use header::shared_msg_header::Header;
+use header::shared_msg_header::HeaderRead;
 use kinds::kind;
 use kinds::kind::KindFound;
 use kinds::kind::Side;
 use wire::message;
 use wire::message::Asked;
-use words::header;
-use words::header::Header;
-use words::header::HeaderRead;
-use words::ids::Known;
 use words::layout::Fault;
 ghost use Prim.Native.Nat.{_≤_, _<_};
 
@@ -80,7 +80,7 @@ fn interfaces(m: &mut [u8; 65535], end: usize)
 }
 
 fn of_message(m: &[u8; 65535]) {
-    match header::read(m) {
+    match shared_msg_header::read(m) {
         HeaderRead::Short => {
             io::write_all(1, b"short");
         }

@@ -1,3 +1,2 @@
-// Reads what ADD_DEVICE says of a device: its texts and its 28 bytes of capabilities.
+// Reads the 28 bytes of capabilities that ADD_DEVICE says of a device.
 pub mod device_capabilities;
-pub mod text;

@@ -3,9 +3,9 @@ use Prim.Native.Nat.{ℕ}
 use mathlib.Core.List.{List, [], _∷_}
 use mathlib.Core.Bool.{Bool, false, cond, _&&_}
 use lib.Dec.{eqb}
-use Rattle.words.specs.declared.header.Header.{Header}
-use Rattle.words.specs.declared.ids.Known.{Known}
-use Rattle.words.specs.declared.ids.Known.the-variants as known
+use Rattle.header.specs.declared.shared_msg_header.Header.{Header}
+use Rattle.header.specs.declared.ids.Known.{Known}
+use Rattle.header.specs.declared.ids.Known.the-variants as known
 use Rattle.answers.specs.declared.kind.Kind.{Kind}
 use Rattle.answers.specs.declared.kind.Kind.the-variants.{CapabilityRequest, CapabilityResponse, ChannelCreatedByServer, ChannelCreatedByClient, AddVirtualChannel, AddDevice, CancelRequest, RegisterRequestCallback, IoControl, InternalIoControl, TransferInRequest, TransferOutRequest, RetractDevice, IoControlCompletion, UrbCompletion, UrbCompletionNoData}
 use Rattle.kinds.specs.declared.kind.KindFound.{KindFound}

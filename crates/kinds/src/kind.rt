@@ -1,5 +1,7 @@
 // The kind of a message, by 01's table "Header and kinds": the first row that fits.
 use answers::kind::Kind;
+use header::ids::Known;
+use header::shared_msg_header::Header;
 use wire::add_device::AddDevice;
 use wire::add_virtual_channel::AddVirtualChannel;
 use wire::cancel_request::CancelRequest;
@@ -15,8 +17,6 @@ use wire::transfer_in_request::TransferInRequest;
 use wire::transfer_out_request::TransferOutRequest;
 use wire::urb_completion::UrbCompletion;
 use wire::urb_completion_no_data::UrbCompletionNoData;
-use words::header::Header;
-use words::ids::Known;
 ghost use mathlib.Core.Path.{_≡_};
 ghost use Rattle.kinds.specs.Kinds.{goesTo, callsAt, callsKnown, firstFitting, kinds, kindsFrom4, kindsFrom13, kindsFrom8, kindsFrom10, kindsFrom15};
 

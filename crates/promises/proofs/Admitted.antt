@@ -4,11 +4,11 @@ use mathlib.Core.List.{List}
 use lib.ListN.{length}
 use lib.Dec.{eqb, ltb}
 use Rattle.words.proofs.Steps.{either}
-use Rattle.words.specs.Header.{headerOf}
+use Rattle.header.specs.Header.{headerOf}
 use Rattle.answers.specs.Kind.{kindNumber}
-use Rattle.words.specs.declared.header.HeaderRead.{HeaderRead}
-use Rattle.words.specs.declared.header.HeaderRead.the-variants as header
-use Rattle.words.specs.declared.ids.Known.{Known}
+use Rattle.header.specs.declared.shared_msg_header.HeaderRead.{HeaderRead}
+use Rattle.header.specs.declared.shared_msg_header.HeaderRead.the-variants as header
+use Rattle.header.specs.declared.ids.Known.{Known}
 use Rattle.answers.specs.declared.kind.Kind.{Kind}
 use Rattle.wire.specs.Message.{askedOf}
 use Rattle.kinds.specs.Kinds.{firstFitting, kinds}

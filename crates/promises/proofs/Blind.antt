@@ -8,12 +8,12 @@ use mathlib.Core.Bool.{Bool, true, false, cond}
 use lib.ListN.{length}
 use lib.Dec.{eqb, ltb}
 use borrow.Author.Tests.{ltb-true, ltb-false}
-use Rattle.words.specs.Header.{headerOf}
+use Rattle.header.specs.Header.{headerOf}
 use Rattle.answers.specs.Kind.{kindNumber}
 use Rattle.words.specs.Words.{byteAt}
-use Rattle.words.specs.declared.header.HeaderRead.{HeaderRead}
-use Rattle.words.specs.declared.header.HeaderRead.the-variants as header
-use Rattle.words.specs.declared.ids.Known.{Known}
+use Rattle.header.specs.declared.shared_msg_header.HeaderRead.{HeaderRead}
+use Rattle.header.specs.declared.shared_msg_header.HeaderRead.the-variants as header
+use Rattle.header.specs.declared.ids.Known.{Known}
 use Rattle.answers.specs.declared.kind.Kind.{Kind}
 use Rattle.words.specs.declared.layout.Part.{Part}
 use Rattle.wire.specs.Message.{askedOf, emptyPart}

@@ -1,7 +1,7 @@
 -- C1 to C12 hold, in one statement, of the definitions that the contracts cite: by computation.
 use mathlib.Core.Path.{_≡_, refl}
 use mathlib.Core.List.{map}
-use Rattle.words.specs.Header.{headerOf}
+use Rattle.header.specs.Header.{headerOf}
 use Rattle.wire.specs.Message.{askedOf}
 use Rattle.wire.specs.Reading.{readingOf}
 use Rattle.urb.specs.TsUrb.{oneSizeOf, structureOf, tsUrbOf}
@@ -10,7 +10,7 @@ use Rattle.wire.specs.TransferInRequest.{transferInRequestAllowed, transferInRe
 use Rattle.wire.specs.TsUrbResult.{completedOf, completionOf, completionWith}
 use Rattle.wire.specs.UrbCompletion.{urbCompletionOf, withOutputOf}
 use Rattle.wire.specs.CancelRequest.{cancelRequestOf}
-use Rattle.channel.specs.Rows.{firstFrom, heldOf, openCount}
+use Rattle.rows.specs.Search.{firstFrom, heldOf, openCount}
 use Rattle.rules.specs.Request.{opened, taken}
 use Rattle.rules.specs.Decide.{decided}
 use Rattle.turn.specs.Admit.{admitted, asksIn, fromHeader}

@@ -6,7 +6,8 @@ use mathlib.Core.List.{List, [], _∷_}
 use lib.ListN.{getD, set}
 use lib.Dec.{ltb}
 use Rattle.words.proofs.Steps.{either}
-use Rattle.channel.specs.Rows.{newChannel, openCount}
+use Rattle.channel.specs.Rows.{newChannel}
+use Rattle.rows.specs.Search.{openCount}
 use Rattle.answers.specs.declared.answer.Answer.the-variants as answer
 use Rattle.rules.specs.declared.verdict.Verdict.{Verdict}
 use Rattle.rules.specs.declared.verdict.Verdict.the-variants.{Refused, Accepted}

@@ -5,19 +5,20 @@ use mathlib.Core.List.{List, [], _∷_, map}
 use mathlib.Core.Bool.{Bool, true, false, cond}
 use lib.ListN.{getD, set, replicate, List·getD-map}
 use lib.Dec.{eqb, ltb}
-use Rattle.words.specs.declared.ids.RequestId.{RequestId}
+use Rattle.header.specs.declared.ids.RequestId.{RequestId}
 use Rattle.answers.specs.declared.kind.Kind.{Kind}
 use Rattle.wire.specs.declared.message.Asked.{Asked}
 use Rattle.wire.specs.declared.message.Asked.the-variants as asks
 use Rattle.wire.specs.declared.message.IoCompleted.{IoCompleted}
 use Rattle.wire.specs.declared.message.Request.{Request}
 use Rattle.wire.specs.declared.message.UrbCompleted.{UrbCompleted}
-use Rattle.channel.specs.Rows.{findOf, firstFrom, free, freeRow, heldAt, heldBy, heldOf, holds, lowestOf, openCount, weight}
+use Rattle.channel.specs.Rows.{freeRow}
+use Rattle.rows.specs.Search.{findOf, firstFrom, free, heldAt, heldBy, heldOf, holds, lowestOf, openCount, weight}
 use Rattle.channel.specs.declared.channel.Channel.{Channel}
-use Rattle.channel.specs.declared.channel.Found.{Found}
-use Rattle.channel.specs.declared.channel.Found.the-variants as found
-use Rattle.channel.specs.declared.channel.Held.{Held}
-use Rattle.channel.specs.declared.channel.Held.the-variants as held
+use Rattle.rows.specs.declared.search.Found.{Found}
+use Rattle.rows.specs.declared.search.Found.the-variants as found
+use Rattle.rows.specs.declared.search.Held.{Held}
+use Rattle.rows.specs.declared.search.Held.the-variants as held
 use Rattle.channel.specs.declared.row.Open.{Open}
 use Rattle.channel.specs.declared.row.Row.{Row}
 use Rattle.channel.specs.declared.row.Sort.{Sort}

@@ -10,7 +10,8 @@ use lib.Seq.{getD-set-same}
 use lib.Dec.{eqb, ltb}
 use borrow.Author.Tests.{eqb-false, ltb-false}
 use Rattle.words.proofs.Steps.{either}
-use Rattle.channel.specs.Rows.{freeRow, newChannel, openCount}
+use Rattle.channel.specs.Rows.{freeRow, newChannel}
+use Rattle.rows.specs.Search.{openCount}
 use Rattle.channel.specs.declared.channel.Channel.{Channel}
 use Rattle.channel.specs.declared.row.Open.{Open}
 use Rattle.channel.specs.declared.row.Row.{Row}

@@ -9,21 +9,23 @@ use lib.ListN.{getD, set, replicate}
 use lib.Dec.{ltb, eqb}
 use borrow.Author.Tests.{eqb-true, eqb-false}
 use Rattle.words.proofs.Steps.{either}
-use Rattle.words.specs.declared.ids.Known.the-variants as known
-use Rattle.words.specs.declared.ids.RequestId.{RequestId}
+use Rattle.header.specs.declared.ids.Known.the-variants as known
+use Rattle.header.specs.declared.ids.RequestId.{RequestId}
 use Rattle.answers.specs.declared.kind.Kind.{Kind}
 use Rattle.wire_laws.specs.Assigned.{Assigned, Given}
 use Rattle.wire.specs.declared.message.Asked.{Asked}
 use Rattle.wire.specs.declared.message.Asked.the-variants as asks
 use Rattle.wire.specs.declared.message.Request.{Request}
 use Rattle.wire_laws.proofs.Assigned.{assigned}
-use Rattle.channel.specs.Rows.{freeRow, heldOf, holds, holdsBy, lowestOf, newChannel, withRow}
+use Rattle.channel.specs.Rows.{freeRow, newChannel, withRow}
+use Rattle.rows.specs.Search.{heldOf, holds, holdsBy, lowestOf}
 use Rattle.channel.specs.declared.row.Row.{Row}
 use Rattle.channel.specs.declared.row.Sort.{Sort}
 use Rattle.channel.specs.declared.row.Sort.the-variants.{Free, Io, In, Out}
 use Rattle.channel.specs.declared.channel.Channel.{Channel}
-use Rattle.channel.specs.declared.channel.Held.the-variants as held
-use Rattle.channel.proofs.Laws.{all-alike, nothing-held, set-read}
+use Rattle.rows.specs.declared.search.Held.the-variants as held
+use Rattle.channel.proofs.Laws.{all-alike, set-read}
+use Rattle.rows.proofs.Laws.{nothing-held}
 use Rattle.rules.specs.Request.{opened}
 use Rattle.rules.specs.Decide.{decided}
 use Rattle.rules.specs.declared.verdict.Act.{Act}

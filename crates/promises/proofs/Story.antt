@@ -8,21 +8,22 @@ use lib.ListN.{getD}
 use lib.Dec.{eqb}
 use borrow.Author.Tests.{eqb-true}
 use Rattle.answers.specs.Kind.{kindNumber}
-use Rattle.words.specs.declared.ids.RequestId.{RequestId}
+use Rattle.header.specs.declared.ids.RequestId.{RequestId}
 use Rattle.answers.specs.declared.kind.Kind.{Kind}
 use Rattle.wire.specs.declared.message.Asked.{Asked}
 use Rattle.wire.specs.declared.message.Asked.the-variants as asks
 use Rattle.kinds.specs.Kinds.{kinds}
-use Rattle.channel.specs.Rows.{findOf, freeRow, heldAt, heldBy, heldOf, holds, lowestOf}
+use Rattle.channel.specs.Rows.{freeRow}
+use Rattle.rows.specs.Search.{findOf, heldAt, heldBy, heldOf, holds, lowestOf}
 use Rattle.channel.specs.declared.channel.Channel.{Channel}
-use Rattle.channel.specs.declared.channel.Found.{Found}
-use Rattle.channel.specs.declared.channel.Found.the-variants as found
-use Rattle.channel.specs.declared.channel.Held.{Held}
-use Rattle.channel.specs.declared.channel.Held.the-variants as held
+use Rattle.rows.specs.declared.search.Found.{Found}
+use Rattle.rows.specs.declared.search.Found.the-variants as found
+use Rattle.rows.specs.declared.search.Held.{Held}
+use Rattle.rows.specs.declared.search.Held.the-variants as held
 use Rattle.channel.specs.declared.row.Open.{Open}
 use Rattle.channel.specs.declared.row.Sort.{Sort}
 use Rattle.channel.specs.declared.row.Sort.the-variants.{Free, Io, In, Out}
-use Rattle.channel.proofs.Laws.{first-there}
+use Rattle.rows.proofs.Laws.{first-there}
 use Rattle.rules.specs.Request.{opened}
 use Rattle.rules.specs.Decide.{decided}
 use Rattle.rules.specs.declared.verdict.Act.{Act}

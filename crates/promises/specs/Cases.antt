@@ -2,8 +2,8 @@
 use Prim.Native.Nat.{ℕ, zero, suc, _+_}
 use mathlib.Core.List.{List, [], _∷_, _++_}
 use lib.ListN.{replicate, take}
-use Rattle.words.specs.declared.ids.Known.the-variants as known
-use Rattle.words.specs.declared.ids.RequestId.{RequestId}
+use Rattle.header.specs.declared.ids.Known.the-variants as known
+use Rattle.header.specs.declared.ids.RequestId.{RequestId}
 use Rattle.channel.specs.Rows.{freeRow, newChannel}
 use Rattle.channel.specs.declared.channel.Channel.{Channel}
 use Rattle.channel.specs.declared.row.Row.{Row}

@@ -2,7 +2,8 @@
 use Prim.Native.Nat.{ℕ}
 use mathlib.Core.List.{List, [], map}
 use mathlib.Core.Bool.{cond}
-use Rattle.channel.specs.Rows.{newChannel, openCount, withRows}
+use Rattle.channel.specs.Rows.{newChannel, withRows}
+use Rattle.rows.specs.Search.{openCount}
 use Rattle.channel.specs.declared.channel.Channel.{Channel}
 use Rattle.channel.specs.declared.row.Open.{Open}
 use Rattle.channel.specs.declared.row.Row.{Row}

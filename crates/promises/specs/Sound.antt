@@ -3,9 +3,10 @@ use Prim.Native.Nat.{ℕ, _<_, _≤_}
 use mathlib.Core.Path.{_≡_}
 use mathlib.Core.Bool.{true}
 use lib.ListN.{getD}
-use Rattle.words.specs.declared.ids.RequestId.{RequestId}
+use Rattle.header.specs.declared.ids.RequestId.{RequestId}
 use Rattle.wire_laws.specs.Assigned.{Given}
-use Rattle.channel.specs.Rows.{freeRow, holds}
+use Rattle.channel.specs.Rows.{freeRow}
+use Rattle.rows.specs.Search.{holds}
 use Rattle.channel.specs.declared.row.Open.{Open}
 use Rattle.channel.specs.declared.row.Row.{Row}
 use Rattle.channel.specs.declared.row.Sort.{Sort}

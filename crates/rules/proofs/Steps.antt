@@ -5,8 +5,8 @@ use Rattle.answers.specs.declared.kind.Kind.{Kind}
 use Rattle.wire.specs.declared.message.Request.{Request}
 use Rattle.channel.specs.declared.row.Open.{Open}
 use Rattle.channel.specs.declared.row.Sort.{Sort}
-use Rattle.channel.specs.declared.channel.Found.{Found}
-use Rattle.channel.specs.declared.channel.Held.{Held}
+use Rattle.rows.specs.declared.search.Found.{Found}
+use Rattle.rows.specs.declared.search.Held.{Held}
 use Rattle.rules.specs.Request.{taken}
 use Rattle.rules.specs.declared.verdict.Verdict.{Verdict}
 

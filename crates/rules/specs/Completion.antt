@@ -3,15 +3,15 @@ use Prim.Native.Nat.{ℕ}
 use mathlib.Core.Bool.{Bool, cond}
 use lib.Dec.{ltb, eqb}
 use Rattle.words.specs.Hresult.{succeeded}
-use Rattle.words.specs.declared.ids.RequestId.{RequestId}
+use Rattle.header.specs.declared.ids.RequestId.{RequestId}
 use Rattle.answers.specs.declared.kind.Kind.{Kind}
 use Rattle.words.specs.declared.layout.Part.{Part}
 use Rattle.wire.specs.Message.{emptyPart}
 use Rattle.wire.specs.declared.message.IoCompleted.{IoCompleted}
 use Rattle.wire.specs.declared.message.UrbCompleted.{UrbCompleted}
 use Rattle.channel.specs.declared.row.Open.{Open}
-use Rattle.channel.specs.declared.channel.Held.{Held}
-use Rattle.channel.specs.declared.channel.Held.the-variants.{Nothing, Io, In, Out}
+use Rattle.rows.specs.declared.search.Held.{Held}
+use Rattle.rows.specs.declared.search.Held.the-variants.{Nothing, Io, In, Out}
 use Rattle.rules.specs.Verdict.{accepted, refused}
 use Rattle.answers.specs.declared.answer.Answer.the-variants.{NotOpen, WrongSort, TooMuch, ResultDisagrees}
 use Rattle.rules.specs.declared.verdict.Act.the-variants.{Keep, Free}

@@ -7,10 +7,10 @@ use Rattle.wire.specs.declared.message.Request.{Request}
 use Rattle.channel.specs.declared.row.Open.{Open}
 use Rattle.channel.specs.declared.row.Sort.{Sort}
 use Rattle.channel.specs.declared.row.Sort.the-variants.{Out}
-use Rattle.channel.specs.declared.channel.Found.{Found}
-use Rattle.channel.specs.declared.channel.Found.the-variants as found
-use Rattle.channel.specs.declared.channel.Held.{Held}
-use Rattle.channel.specs.declared.channel.Held.the-variants as held
+use Rattle.rows.specs.declared.search.Found.{Found}
+use Rattle.rows.specs.declared.search.Found.the-variants as found
+use Rattle.rows.specs.declared.search.Held.{Held}
+use Rattle.rows.specs.declared.search.Held.the-variants as held
 use Rattle.answers.specs.Phase.{phasesOf}
 use Rattle.rules.specs.Verdict.{accepted, refused}
 use Rattle.answers.specs.declared.answer.Answer.the-variants.{Value, AlreadyOpen, Full}

@@ -1,12 +1,13 @@
 -- What is found in a channel's rows, and what an accepted message does to the channel.
 use Prim.Native.Nat.{ℕ}
-use Rattle.words.specs.declared.ids.Known.the-variants.{Is}
+use Rattle.header.specs.declared.ids.Known.the-variants.{Is}
 use Rattle.wire.specs.declared.message.Asked.{Asked}
 use Rattle.wire.specs.declared.message.Asked.the-variants as asks
-use Rattle.channel.specs.Rows.{freeRow, heldOf, lowestOf, openCount, withRow, emptied}
+use Rattle.channel.specs.Rows.{freeRow, withRow, emptied}
+use Rattle.rows.specs.Search.{heldOf, lowestOf, openCount}
 use Rattle.channel.specs.declared.channel.Channel.{Channel}
-use Rattle.channel.specs.declared.channel.Held.{Held}
-use Rattle.channel.specs.declared.channel.Held.the-variants.{Nothing}
+use Rattle.rows.specs.declared.search.Held.{Held}
+use Rattle.rows.specs.declared.search.Held.the-variants.{Nothing}
 use Rattle.rules.specs.declared.decide.Seen.{Seen}
 use Rattle.rules.specs.declared.verdict.Act.{Act}
 use Rattle.rules.specs.declared.verdict.Act.the-variants.{Keep, Device, Callback, Take, Free, Empty}

@@ -3,14 +3,14 @@ use answers::answer::Answer;
 use answers::kind;
 use answers::kind::Kind;
 use answers::phase;
+use header::ids::Known;
+use header::shared_msg_header;
+use header::shared_msg_header::Header;
+use header::shared_msg_header::HeaderRead;
 use kinds::kind::KindFound;
 use kinds::kind::kind_of;
 use wire::message::Asked;
 use wire::message::ask;
-use words::header;
-use words::header::Header;
-use words::header::HeaderRead;
-use words::ids::Known;
 ghost use mathlib.Core.Path.{_≡_};
 ghost use Rattle.turn.specs.Admit.{admitted, asksIn, fromHeader};
 
@@ -51,7 +51,7 @@ fn with_header(phase: u8, device: Known, callback: Known, side: u8, h: Header, m
 pub(crate) fn admit(phase: u8, device: Known, callback: Known, side: u8, m: &[u8]) -> Admitted
     ensures { λ r. ⌜ r ≡ admitted phase device callback side (now (m .entry)) ⌝ }
 {
-    match header::read(m) {
+    match shared_msg_header::read(m) {
         HeaderRead::Short => Admitted::Refused(0, Answer::Short),
         HeaderRead::Is(h) => with_header(phase, device, callback, side, h, m),
     }

@@ -1,17 +1,17 @@
 // What is found in a channel's rows, and what is done to the channel.
 use channel::channel::Channel;
-use channel::channel::Held;
-use channel::channel::count_open;
 use channel::channel::empty;
-use channel::channel::lowest_free;
 use channel::channel::put;
-use channel::channel::under;
 use channel::row::Row;
 use channel::row::Sort;
+use header::ids::Known;
+use rows::search::Held;
+use rows::search::count_open;
+use rows::search::lowest_free;
+use rows::search::under;
 use rules::decide::Seen;
 use rules::verdict::Act;
 use wire::message::Asked;
-use words::ids::Known;
 ghost use mathlib.Core.Path.{_≡_};
 ghost use Rattle.turn.specs.Store.{done, hereOf, seenOf, stored};
 

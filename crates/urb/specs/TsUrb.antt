@@ -5,7 +5,7 @@ use mathlib.Core.Bool.{cond}
 use lib.ListN.{length}
 use lib.Dec.{eqb}
 use Rattle.words.specs.Words.{halfAt, wordAt}
-use Rattle.words.specs.Ids.{urbRequestIn, noAckIn}
+use Rattle.header.specs.Ids.{urbRequestIn, noAckIn}
 use Rattle.words.specs.Layout.{left, agrees}
 use Rattle.urb.specs.SelectConfiguration.{selectConfigurationOf}
 use Rattle.urb.specs.SelectInterface.{selectInterfaceOf}

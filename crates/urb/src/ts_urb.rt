@@ -19,7 +19,7 @@ use crate::select_configuration;
 use crate::select_configuration::SelectConfiguration;
 use crate::select_interface;
 use crate::select_interface::SelectInterface;
-use words::ids::RequestId;
+use header::ids::RequestId;
 use words::layout::Fault;
 use words::numbers::rest;
 use words::numbers::u16_at;

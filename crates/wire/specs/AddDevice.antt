@@ -4,13 +4,13 @@ use mathlib.Core.List.{List}
 use mathlib.Core.Bool.{Bool, _&&_}
 use lib.Dec.{eqb}
 use Rattle.words.specs.Words.{wordAt}
-use Rattle.words.specs.Ids.{assignable, interfaceIn, maskIn}
+use Rattle.header.specs.Ids.{assignable, interfaceIn, maskIn}
 use Rattle.words.specs.Layout.{field, ended}
-use Rattle.device.specs.Text.{textOf, textAllowed, listAllowed}
+use Rattle.texts.specs.Text.{textOf, textAllowed, listAllowed}
 use Rattle.device.specs.DeviceCapabilities.{capabilitiesOf, capabilitiesAllowed}
-use Rattle.device.specs.declared.text.Text.{Text}
-use Rattle.device.specs.declared.text.TextRead.{TextRead}
-use Rattle.device.specs.declared.text.TextRead.the-variants as text
+use Rattle.texts.specs.declared.text.Text.{Text}
+use Rattle.texts.specs.declared.text.TextRead.{TextRead}
+use Rattle.texts.specs.declared.text.TextRead.the-variants as text
 use Rattle.wire.specs.declared.add_device.TextPair.{TextPair}
 use Rattle.wire.specs.declared.add_device.AddDevice.{AddDevice}
 use Rattle.wire.specs.declared.add_device.PairRead.{PairRead}

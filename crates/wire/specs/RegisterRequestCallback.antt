@@ -4,10 +4,10 @@ use mathlib.Core.List.{List}
 use mathlib.Core.Bool.{Bool, true, cond}
 use lib.Dec.{eqb}
 use Rattle.words.specs.Words.{wordAt}
-use Rattle.words.specs.Ids.{assignable, interfaceIn, maskIn}
+use Rattle.header.specs.Ids.{assignable, interfaceIn, maskIn}
 use Rattle.words.specs.Layout.{field, ended}
-use Rattle.words.specs.declared.ids.Known.{Known}
-use Rattle.words.specs.declared.ids.Known.the-variants.{Nothing, Is}
+use Rattle.header.specs.declared.ids.Known.{Known}
+use Rattle.header.specs.declared.ids.Known.the-variants.{Nothing, Is}
 use Rattle.wire.specs.declared.register_request_callback.RegisterRequestCallback.{RegisterRequestCallback}
 use Rattle.wire.specs.declared.register_request_callback.RegisterRequestCallbackRead.{RegisterRequestCallbackRead}
 use Rattle.wire.specs.declared.register_request_callback.RegisterRequestCallbackRead.the-variants.{Fits, Fails}

@@ -2,7 +2,7 @@
 //
 //   12  RequestId  4
 use crate::message::Asked;
-use words::ids::RequestId;
+use header::ids::RequestId;
 use words::layout::Fault;
 use words::numbers::rest;
 ghost use mathlib.Core.Path.{_≡_};

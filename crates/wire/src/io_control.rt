@@ -7,7 +7,7 @@
 //  e+4  RequestId         4
 use crate::message::Asked;
 use crate::message::Request;
-use words::ids::RequestId;
+use header::ids::RequestId;
 use words::layout::Fault;
 use words::layout::Part;
 use words::numbers::rest;

@@ -7,7 +7,7 @@
 //   28  OutputBuffer      OutputBufferSize
 use crate::message::Asked;
 use crate::message::IoCompleted;
-use words::ids::RequestId;
+use header::ids::RequestId;
 use words::layout::Fault;
 use words::layout::Part;
 use words::numbers::rest;

@@ -3,8 +3,8 @@
 //   12  NumRequestCompletion  4
 //   16  RequestCompletion     4  only where the count is not 0; its low 30 bits are an interface, 4 or above
 use crate::message::Asked;
-use words::ids::InterfaceId;
-use words::ids::Known;
+use header::ids::InterfaceId;
+use header::ids::Known;
 use words::layout::Fault;
 use words::numbers::rest;
 use words::numbers::u32_at;

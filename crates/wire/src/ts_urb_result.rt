@@ -9,7 +9,7 @@
 //         28  the rest
 //    e  HResult           4
 //  e+4  OutputBufferSize  4
-use words::ids::RequestId;
+use header::ids::RequestId;
 use words::layout::Fault;
 use words::layout::Part;
 use words::numbers::rest;

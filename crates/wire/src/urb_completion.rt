@@ -8,7 +8,7 @@ use crate::ts_urb_result;
 use crate::ts_urb_result::Completion;
 use crate::ts_urb_result::CompletionRead;
 use crate::ts_urb_result::TsUrbResult;
-use words::ids::RequestId;
+use header::ids::RequestId;
 use words::layout::Fault;
 use words::layout::Part;
 use words::numbers::rest;

@@ -4,9 +4,9 @@ use mathlib.Core.Path.{_≡_, refl}
 use mathlib.Core.List.{List}
 use mathlib.Core.Bool.{Bool, true, false, cond, _&&_}
 use lib.Dec.{eqb}
-use Rattle.words.specs.Ids.{assignable}
-use Rattle.words.specs.declared.ids.Known.{Known}
-use Rattle.words.specs.declared.ids.Known.the-variants as known
+use Rattle.header.specs.Ids.{assignable}
+use Rattle.header.specs.declared.ids.Known.{Known}
+use Rattle.header.specs.declared.ids.Known.the-variants as known
 use Rattle.answers.specs.declared.kind.Kind.{Kind}
 use Rattle.wire.specs.CapabilityRequest.{capabilityRequestAllowed}
 use Rattle.wire.specs.CapabilityResponse.{capabilityResponseAllowed}

@@ -9,10 +9,10 @@ use borrow.Author.Tests.{ltb-false}
 use Rattle.words.specs.Words.{wordAt}
 use Rattle.words.specs.Layout.{left, Within}
 use Rattle.wire_laws.specs.Device.{textSize}
-use Rattle.device.specs.Text.{textOf, unitsOf}
+use Rattle.texts.specs.Text.{textOf, unitsOf}
 use Rattle.device.specs.DeviceCapabilities.{capabilitiesOf}
-use Rattle.device.specs.declared.text.TextRead.{TextRead}
-use Rattle.device.specs.declared.text.TextRead.the-variants as text
+use Rattle.texts.specs.declared.text.TextRead.{TextRead}
+use Rattle.texts.specs.declared.text.TextRead.the-variants as text
 use Rattle.device.specs.declared.device_capabilities.CapabilitiesRead.{CapabilitiesRead}
 use Rattle.device.specs.declared.device_capabilities.CapabilitiesRead.the-variants as capabilities
 use Rattle.words.proofs.Steps.{by-test, field-by}

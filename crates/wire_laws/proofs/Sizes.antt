@@ -15,7 +15,7 @@ use Rattle.wire.specs.CapabilityRequest.{capabilityRequestOf}
 use Rattle.wire.specs.CapabilityResponse.{capabilityResponseOf}
 use Rattle.wire.specs.ChannelCreated.{channelCreatedOf}
 use Rattle.wire.specs.AddVirtualChannel.{addVirtualChannelOf}
-use Rattle.device.specs.Text.{textOf}
+use Rattle.texts.specs.Text.{textOf}
 use Rattle.device.specs.DeviceCapabilities.{capabilitiesOf}
 use Rattle.wire.specs.AddDevice.{pairWith, pairFrom, pairOf, deviceWith, deviceOf, classesFrom, namesFrom, addDeviceOf}
 use Rattle.wire.specs.CancelRequest.{cancelRequestOf}
@@ -61,9 +61,9 @@ use Rattle.wire.specs.declared.urb_completion_no_data.UrbCompletionNoDataRead.{
 use Rattle.wire.specs.declared.urb_completion_no_data.UrbCompletionNoDataRead.the-variants as urbCompletionNoData
 use Rattle.answers.specs.declared.kind.Kind.{Kind}
 use Rattle.answers.specs.declared.kind.Kind.the-variants as kind
-use Rattle.device.specs.declared.text.Text.{Text}
-use Rattle.device.specs.declared.text.TextRead.{TextRead}
-use Rattle.device.specs.declared.text.TextRead.the-variants as text
+use Rattle.texts.specs.declared.text.Text.{Text}
+use Rattle.texts.specs.declared.text.TextRead.{TextRead}
+use Rattle.texts.specs.declared.text.TextRead.the-variants as text
 use Rattle.wire.specs.declared.add_device.TextPair.{TextPair}
 use Rattle.wire.specs.declared.add_device.PairRead.{PairRead}
 use Rattle.wire.specs.declared.add_device.PairRead.the-variants as pair

@@ -1,6 +1,4 @@
-// Numbers and ids at a place of a message, its header, and what a size reader answers.
-pub mod header;
+// Numbers at a place of a message, an HRESULT, and what a size reader answers.
 pub mod hresult;
-pub mod ids;
 pub mod layout;
 pub mod numbers;

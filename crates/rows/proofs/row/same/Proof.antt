@@ -1,0 +1,12 @@
+-- `rows::row::same` meets its contract: it compares the two numbers.
+use borrow.Author.Needs.{needs}
+use Rattle.rows.proofs.row.same.Statement.{statement}
+use Rattle.rows.proofs.row.same.Tie as tie
+
+pub same-spec : {M : Type 1} → statement M
+same-spec =
+    tie.close
+    (tie.spec
+    (search needs)
+    (search needs)
+    (λ c. cc))
