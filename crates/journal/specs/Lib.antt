@@ -1,4 +1,3 @@
 pub mod Calls
 pub mod Journal
-pub mod Line
 pub mod Record

@@ -1,4 +1,4 @@
--- `crate::shared_msg_header::read` meets its contract: its four fields are those of the first 12 bytes.
+-- `header::shared_msg_header::read` meets its contract: its four fields are those of the first 12 bytes.
 use borrow.Author.Tests.{le-ltb}
 use Rattle.header.specs.Header.{headerOf}
 use borrow.Author.Needs.{needs}

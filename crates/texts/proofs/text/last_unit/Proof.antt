@@ -1,4 +1,4 @@
--- `crate::text::last_unit` meets its contract: its test is that of `lastUnit`.
+-- `texts::text::last_unit` meets its contract: its test is that of `lastUnit`.
 use borrow.Author.Needs.{needs}
 use Rattle.words.proofs.Tests.{tests}
 use Rattle.texts.proofs.text.last_unit.Statement.{statement}

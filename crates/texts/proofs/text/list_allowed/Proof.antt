@@ -1,4 +1,4 @@
--- `crate::text::list_allowed` meets its contract: it is a text, and the unit before its last is 0.
+-- `texts::text::list_allowed` meets its contract: it is a text, and the unit before its last is 0.
 use borrow.Author.Needs.{needs}
 use borrow.Author.Tests.{not-false, not-true}
 use Rattle.texts.proofs.text.list_allowed.Statement.{statement}

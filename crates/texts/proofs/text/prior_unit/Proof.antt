@@ -1,4 +1,4 @@
--- `crate::text::prior_unit` meets its contract: its test is that of `priorUnit`.
+-- `texts::text::prior_unit` meets its contract: its test is that of `priorUnit`.
 use borrow.Author.Needs.{needs}
 use Rattle.words.proofs.Tests.{tests}
 use Rattle.texts.proofs.text.prior_unit.Statement.{statement}

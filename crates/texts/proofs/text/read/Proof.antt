@@ -1,4 +1,4 @@
--- `crate::text::read` meets its contract: its tests are those of `textOf`.
+-- `texts::text::read` meets its contract: its tests are those of `textOf`.
 use borrow.Author.Needs.{needs}
 use Rattle.texts.specs.Text.{textOf, unitsOf}
 use borrow.Author.Tests.{le-ltb, lt-ltb}

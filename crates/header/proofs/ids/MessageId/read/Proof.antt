@@ -1,4 +1,4 @@
--- `crate::ids::MessageId::read` meets its contract: it is made of the word at that place.
+-- `header::ids::MessageId::read` meets its contract: it is made of the word at that place.
 use borrow.Author.Needs.{needs}
 use Rattle.header.proofs.ids.MessageId.read.Statement.{statement}
 use Rattle.header.proofs.ids.MessageId.read.Tie as tie

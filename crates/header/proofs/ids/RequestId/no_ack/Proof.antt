@@ -1,4 +1,4 @@
--- `crate::ids::RequestId::no_ack` meets its contract: it is made of the word at that place.
+-- `header::ids::RequestId::no_ack` meets its contract: it is made of the word at that place.
 use borrow.Author.Needs.{needs}
 use Rattle.header.proofs.ids.RequestId.no_ack.Statement.{statement}
 use Rattle.header.proofs.ids.RequestId.no_ack.Tie as tie

@@ -1,4 +1,4 @@
--- `crate::ids::RequestId::read` meets its contract: it is made of the word at that place.
+-- `header::ids::RequestId::read` meets its contract: it is made of the word at that place.
 use borrow.Author.Needs.{needs}
 use Rattle.header.proofs.ids.RequestId.read.Statement.{statement}
 use Rattle.header.proofs.ids.RequestId.read.Tie as tie
