@@ -36,8 +36,9 @@ use Rattle.turn.specs.Step.{verdictBy, verdictOf}
 use Rattle.turn.specs.Store.{seenOf}
 use Rattle.turn.specs.declared.admit.Admitted.{Admitted}
 use Rattle.turn.specs.declared.admit.Admitted.the-variants.{Refused, Asks}
-use Rattle.table.specs.Payload.{shownBy, shownOf}
-use Rattle.table.specs.Table.{channelOf, judgedBy, judgeOf, noPlace, unnumbered, unplaced, usedUp}
+use Rattle.payloads.specs.Payload.{shownBy, shownOf}
+use Rattle.table.specs.Table.{channelOf, judgedBy, judgeOf, unnumbered, unplaced}
+use Rattle.places.specs.Place.{noPlace, usedUp}
 use Rattle.table.specs.declared.table.Table.{Table}
 use Rattle.promises.proofs.Admitted.{admitted-has}
 use Rattle.promises.proofs.Decided.{cancelled-has, io-has, no-data-has, out-has, taken-has, urb-has}

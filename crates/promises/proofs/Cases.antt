@@ -17,7 +17,7 @@ use Rattle.turn.specs.Admit.{admitted, asksIn, fromHeader}
 use Rattle.turn.specs.Step.{afterOf, verdictOf}
 use Rattle.turn.specs.Store.{hereOf, stored}
 use Rattle.table.specs.Entry.{answerOf, judgedEntry}
-use Rattle.table.specs.Payload.{cutOf, payloadOf, shownOf}
+use Rattle.payloads.specs.Payload.{cutOf, payloadOf, shownOf}
 use Rattle.table.specs.Table.{closeOf, judgeOf}
 use Rattle.promises.specs.Cases.{Case, cases, outcome}
 

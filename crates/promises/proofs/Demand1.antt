@@ -13,7 +13,8 @@ use Rattle.rules.specs.declared.verdict.Verdict.{Verdict}
 use Rattle.rules.specs.declared.verdict.Verdict.the-variants.{Refused, Accepted}
 use Rattle.turn.specs.Step.{afterOf, verdictOf}
 use Rattle.table.specs.Entry.{acceptedEntry, answerOf, closeEntry, judgedEntry, refusedEntry}
-use Rattle.table.specs.Table.{blankChannel, channelOf, closeOf, judgedBy, judgeOf, moved, noPlace, unnumbered, unplaced, usedUp}
+use Rattle.table.specs.Table.{blankChannel, channelOf, closeOf, judgedBy, judgeOf, moved, unnumbered, unplaced}
+use Rattle.places.specs.Place.{noPlace, usedUp}
 use Rattle.table.specs.declared.table.Table.{Table}
 use Rattle.journal.specs.Calls.{Asks, Call, called, calledBy, closing, judging, sideBy, stampBy}
 use Rattle.promises.specs.Demand1.{Demand1}

@@ -8,7 +8,7 @@ use Rattle.rules.specs.declared.verdict.Verdict.{Verdict}
 use Rattle.rules.specs.declared.verdict.Verdict.the-variants.{Refused, Accepted}
 use Rattle.turn.specs.Step.{afterOf, verdictOf}
 use Rattle.table.specs.Entry.{answerOf, judgedEntry}
-use Rattle.table.specs.Table.{ofSide}
+use Rattle.places.specs.Place.{ofSide}
 use Rattle.journal.specs.Calls.{Asks, judging, closing}
 use Rattle.order.specs.Machine.{Machine}
 use Rattle.promises.specs.Gate.{gateStep, Gave, inside, outside, Place, renChannel, renGave, renPlace, saidGave, unplacedGave}

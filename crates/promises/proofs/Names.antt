@@ -27,7 +27,8 @@ use Rattle.rules.specs.declared.verdict.Verdict.the-variants as verdict
 use Rattle.turn.specs.Step.{afterOf, verdictOf}
 use Rattle.turn.specs.Store.{stored}
 use Rattle.table.specs.Entry.{acceptedEntry, answerOf, closeEntry, judgedEntry, refusedEntry}
-use Rattle.table.specs.Table.{blankChannel, channelOf, closeOf, judgedBy, judgeOf, moved, noPlace, ofSide, openOf, unplaced, usedUp}
+use Rattle.table.specs.Table.{blankChannel, channelOf, closeOf, judgedBy, judgeOf, moved, openOf, unplaced}
+use Rattle.places.specs.Place.{noPlace, ofSide, usedUp}
 use Rattle.table.specs.declared.entry.Entry.{Entry}
 use Rattle.table.specs.declared.entry.Noted.the-variants.{Nothing, Is}
 use Rattle.table.specs.declared.table.Judged.{Judged}

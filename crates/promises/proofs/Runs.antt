@@ -16,8 +16,9 @@ use Rattle.rules.specs.declared.verdict.Verdict.{Verdict}
 use Rattle.rules.specs.declared.verdict.Verdict.the-variants.{Refused, Accepted}
 use Rattle.turn.specs.Step.{afterOf, verdictOf}
 use Rattle.table.specs.Entry.{answerOf, judgedEntry}
-use Rattle.table.specs.Payload.{cutOf, payloadOf, shownBy, shownOf}
-use Rattle.table.specs.Table.{blankChannel, channelOf, closeOf, judgeOf, ofSide, usedUp}
+use Rattle.payloads.specs.Payload.{cutOf, payloadOf, shownBy, shownOf}
+use Rattle.table.specs.Table.{blankChannel, channelOf, closeOf, judgeOf}
+use Rattle.places.specs.Place.{ofSide, usedUp}
 use Rattle.table.specs.declared.entry.Entry.{Entry}
 use Rattle.table.specs.declared.entry.Noted.the-variants.{Is}
 use Rattle.table.specs.declared.table.Table.{Table}

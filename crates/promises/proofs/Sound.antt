@@ -37,7 +37,8 @@ use Rattle.turn.specs.Step.{afterOf, verdictBy, verdictOf}
 use Rattle.turn.specs.Store.{done, hereOf, seenOf, stored}
 use Rattle.turn.specs.declared.admit.Admitted.{Admitted}
 use Rattle.turn.specs.declared.admit.Admitted.the-variants as admit
-use Rattle.table.specs.Table.{blankChannel, channelOf, closeOf, judgeOf, noPlace, openOf, usedUp}
+use Rattle.table.specs.Table.{blankChannel, channelOf, closeOf, judgeOf, openOf}
+use Rattle.places.specs.Place.{noPlace, usedUp}
 use Rattle.table.specs.declared.table.Judged.{Judged}
 use Rattle.table.specs.declared.table.Table.{Table}
 use Rattle.journal.specs.Calls.{after, Asks, Call, called, calledBy, closing, judging}

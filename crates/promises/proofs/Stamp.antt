@@ -7,7 +7,8 @@ use Rattle.rules.specs.declared.verdict.Verdict.{Verdict}
 use Rattle.rules.specs.declared.verdict.Verdict.the-variants.{Refused, Accepted}
 use Rattle.turn.specs.Step.{verdictOf}
 use Rattle.table.specs.Entry.{judgedEntry}
-use Rattle.table.specs.Table.{channelOf, closeOf, judgedBy, judgeOf, noPlace, usedUp}
+use Rattle.table.specs.Table.{channelOf, closeOf, judgedBy, judgeOf}
+use Rattle.places.specs.Place.{noPlace, usedUp}
 use Rattle.table.specs.declared.table.Judged.{Judged}
 use Rattle.table.specs.declared.table.Table.{Table}
 use Rattle.journal.specs.Calls.{Asks, Call, called, calledBy, closing, judging}

@@ -9,7 +9,7 @@ use Rattle.channel.specs.declared.channel.Channel.{Channel}
 use Rattle.channel.specs.declared.row.Row.{Row}
 use Rattle.channel.specs.declared.row.Sort.the-variants.{In}
 use Rattle.answers.specs.Answer.{answerNumber}
-use Rattle.table.specs.Payload.{payloadOf}
+use Rattle.payloads.specs.Payload.{payloadOf}
 use Rattle.table.specs.Table.{channelOf, openOf}
 use Rattle.table.specs.declared.entry.Noted.{Noted}
 use Rattle.table.specs.declared.entry.Noted.the-variants.{Nothing, Is}

@@ -14,8 +14,8 @@ use Rattle.answers.specs.declared.answer.Answer.the-variants.{Accepted, NoPlace
 use Rattle.rules.specs.declared.verdict.Verdict.{Verdict}
 use Rattle.turn.specs.Step.{afterOf, verdictOf}
 use Rattle.table.specs.Entry.{answerOf, closeEntry, judgedEntry, refusedEntry}
-use Rattle.table.specs.Payload.{cutOf, shownBy}
-use Rattle.table.specs.Table.{ofSide}
+use Rattle.payloads.specs.Payload.{cutOf, shownBy}
+use Rattle.places.specs.Place.{ofSide}
 use Rattle.table.specs.declared.entry.Entry.{Entry}
 use Rattle.journal.specs.Calls.{Asks, judging, closing}
 

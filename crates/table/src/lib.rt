@@ -1,4 +1,3 @@
-// The table of 8 channels, and its calls: open, judge, close, payload.
+// The table of 8 channels, and its calls: open, judge, close.
 pub mod entry;
-pub mod payload;
 pub mod table;

@@ -8,9 +8,10 @@ use Rattle.words.specs.declared.layout.Part.{Part}
 use Rattle.wire.specs.Message.{emptyPart}
 use Rattle.rules.specs.declared.verdict.Verdict.{Verdict}
 use Rattle.rules.specs.declared.verdict.Verdict.the-variants.{Refused, Accepted}
-use Rattle.table.specs.Table.{channelOf, noPlace, usedUp}
+use Rattle.table.specs.Table.{channelOf}
+use Rattle.places.specs.Place.{noPlace, usedUp}
 use Rattle.turn.specs.Step.{verdictOf}
 use Rattle.table.specs.declared.table.Table.{Table}
 
 abbrev pub shownBy : Verdict → Part
 shownBy (Refused kind a) = emptyPart

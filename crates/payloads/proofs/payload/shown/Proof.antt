@@ -1,10 +1,10 @@
--- `table::payload::shown` meets its contract.
+-- `crate::payload::shown` meets its contract.
 use Prim.Native.Nat.{_<_}
-use Rattle.table.proofs.Steps.{placed}
-use Rattle.table.specs.Payload.{shownOf}
+use Rattle.places.proofs.Steps.{placed}
+use Rattle.payloads.specs.Payload.{shownOf}
 use borrow.Author.Needs.{needs}
-use Rattle.table.proofs.payload.shown.Statement.{statement}
-use Rattle.table.proofs.payload.shown.Tie as tie
+use Rattle.payloads.proofs.payload.shown.Statement.{statement}
+use Rattle.payloads.proofs.payload.shown.Tie as tie
 
 -- the channel is one of the 8
 placed-here : (c : tie.Else2) → c .before .before .before .before .before .args .channel < 8

@@ -1,12 +1,12 @@
--- `table::payload::cut` meets its contract.
-use Rattle.table.specs.Payload.{cutOf, startIn}
+-- `crate::payload::cut` meets its contract.
+use Rattle.payloads.specs.Payload.{cutOf, startIn}
 use native.Mathlib.Nat.{add-sub-cancel-left}
 use mathlib.Core.Path.{refl}
 use borrow.Author.Needs.{needs}
 use Rattle.words.proofs.Tests.{tests}
 use borrow.Author.Tests.{le-ltb, lt-ltb}
-use Rattle.table.proofs.payload.cut.Statement.{statement}
-use Rattle.table.proofs.payload.cut.Tie as tie
+use Rattle.payloads.proofs.payload.cut.Statement.{statement}
+use Rattle.payloads.proofs.payload.cut.Tie as tie
 
 pub cut-spec : {M : Type 1} → statement M
 unfolding cutOf startIn

@@ -1,8 +1,8 @@
--- `table::payload::payload` meets its contract.
-use Rattle.table.specs.Payload.{payloadOf, startOf}
+-- `crate::payload::payload` meets its contract.
+use Rattle.payloads.specs.Payload.{payloadOf, startOf}
 use borrow.Author.Needs.{needs}
-use Rattle.table.proofs.payload.payload.Statement.{statement}
-use Rattle.table.proofs.payload.payload.Tie as tie
+use Rattle.payloads.proofs.payload.payload.Statement.{statement}
+use Rattle.payloads.proofs.payload.payload.Tie as tie
 
 pub payload-spec : {M : Type 1} → statement M
 unfolding payloadOf startOf

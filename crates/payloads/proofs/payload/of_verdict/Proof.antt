@@ -1,7 +1,7 @@
--- `table::payload::of_verdict` meets its contract.
+-- `crate::payload::of_verdict` meets its contract.
 use borrow.Author.Needs.{needs}
-use Rattle.table.proofs.payload.of_verdict.Statement.{statement}
-use Rattle.table.proofs.payload.of_verdict.Tie as tie
+use Rattle.payloads.proofs.payload.of_verdict.Statement.{statement}
+use Rattle.payloads.proofs.payload.of_verdict.Tie as tie
 
 pub of-verdict-spec : {M : Type 1} → statement M
 of-verdict-spec =

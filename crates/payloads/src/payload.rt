@@ -1,12 +1,13 @@
 // 01 "Payload": the input or output bytes of an accepted message, as a part of the message that was lent.
-use crate::table;
-use crate::table::Table;
+use places::place::no_place;
+use places::place::used_up;
 use rules::verdict::Verdict;
+use table::table::Table;
 use turn::step;
 use words::layout::Part;
 ghost use mathlib.Core.Path.{_≡_};
 ghost use denote.Ref.{ptr};
-ghost use Rattle.table.specs.Payload.{behind, cutOf, payloadOf, shownBy, shownOf, startIn, startOf};
+ghost use Rattle.payloads.specs.Payload.{behind, cutOf, payloadOf, shownBy, shownOf, startIn, startOf};
 
 fn of_verdict(verdict: Verdict) -> Part
     ensures { λ r. ⌜ r ≡ shownBy verdict ⌝ }
@@ -23,10 +24,10 @@ fn shown(table: Table, channel: u8, side: u8, m: &[u8]) -> Part
 {
     let nothing = Part { start: 0, size: 0 };
     let number = table.next;
-    if table::used_up(number) {
+    if used_up(number) {
         return nothing;
     }
-    if table::no_place(channel, side) {
+    if no_place(channel, side) {
         return nothing;
     }
     let c = table.channels[channel as usize];

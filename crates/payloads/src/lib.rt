@@ -1,0 +1,2 @@
+// The payload call.
+pub mod payload;

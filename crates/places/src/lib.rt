@@ -1,0 +1,2 @@
+// Whether a call has a number and a place.
+pub mod place;
