@@ -10,7 +10,8 @@ use Rattle.wire.specs.TransferInRequest.{transferInRequestAllowed, transferInRe
 use Rattle.wire.specs.TsUrbResult.{completedOf, completionOf, completionWith}
 use Rattle.wire.specs.UrbCompletion.{urbCompletionOf, withOutputOf}
 use Rattle.wire.specs.CancelRequest.{cancelRequestOf}
-use Rattle.rows.specs.Search.{firstFrom, heldOf, openCount}
+use Rattle.rows.specs.Search.{firstFrom, openCount}
+use Rattle.requests.specs.Held.{heldOf}
 use Rattle.rules.specs.Request.{opened, taken}
 use Rattle.rules.specs.Decide.{decided}
 use Rattle.turn.specs.Admit.{admitted, asksIn, fromHeader}

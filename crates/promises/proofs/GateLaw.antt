@@ -13,12 +13,13 @@ use Rattle.wire.specs.declared.message.IoCompleted.{IoCompleted}
 use Rattle.wire.specs.declared.message.Request.{Request}
 use Rattle.wire.specs.declared.message.UrbCompleted.{UrbCompleted}
 use Rattle.channel.specs.Rows.{freeRow}
-use Rattle.rows.specs.Search.{findOf, firstFrom, free, heldAt, heldBy, heldOf, holds, lowestOf, openCount, weight}
+use Rattle.rows.specs.Search.{firstFrom, free, lowestOf, openCount, weight}
+use Rattle.requests.specs.Held.{findOf, heldAt, heldBy, heldOf, holds}
 use Rattle.channel.specs.declared.channel.Channel.{Channel}
 use Rattle.rows.specs.declared.search.Found.{Found}
 use Rattle.rows.specs.declared.search.Found.the-variants as found
-use Rattle.rows.specs.declared.search.Held.{Held}
-use Rattle.rows.specs.declared.search.Held.the-variants as held
+use Rattle.requests.specs.declared.open.Held.{Held}
+use Rattle.requests.specs.declared.open.Held.the-variants as held
 use Rattle.channel.specs.declared.row.Open.{Open}
 use Rattle.channel.specs.declared.row.Row.{Row}
 use Rattle.channel.specs.declared.row.Sort.{Sort}

@@ -18,14 +18,15 @@ use Rattle.wire.specs.declared.message.Asked.the-variants as asks
 use Rattle.wire.specs.declared.message.Request.{Request}
 use Rattle.wire_laws.proofs.Assigned.{assigned}
 use Rattle.channel.specs.Rows.{freeRow, newChannel, withRow}
-use Rattle.rows.specs.Search.{heldOf, holds, holdsBy, lowestOf}
+use Rattle.rows.specs.Search.{lowestOf}
+use Rattle.requests.specs.Held.{heldOf, holds, holdsBy}
 use Rattle.channel.specs.declared.row.Row.{Row}
 use Rattle.channel.specs.declared.row.Sort.{Sort}
 use Rattle.channel.specs.declared.row.Sort.the-variants.{Free, Io, In, Out}
 use Rattle.channel.specs.declared.channel.Channel.{Channel}
-use Rattle.rows.specs.declared.search.Held.the-variants as held
+use Rattle.requests.specs.declared.open.Held.the-variants as held
 use Rattle.channel.proofs.Laws.{all-alike, set-read}
-use Rattle.rows.proofs.Laws.{nothing-held}
+use Rattle.requests.proofs.Laws.{nothing-held}
 use Rattle.rules.specs.Request.{opened}
 use Rattle.rules.specs.Decide.{decided}
 use Rattle.rules.specs.declared.verdict.Act.{Act}

@@ -14,12 +14,13 @@ use Rattle.wire.specs.declared.message.Asked.{Asked}
 use Rattle.wire.specs.declared.message.Asked.the-variants as asks
 use Rattle.kinds.specs.Kinds.{kinds}
 use Rattle.channel.specs.Rows.{freeRow}
-use Rattle.rows.specs.Search.{findOf, heldAt, heldBy, heldOf, holds, lowestOf}
+use Rattle.rows.specs.Search.{lowestOf}
+use Rattle.requests.specs.Held.{findOf, heldAt, heldBy, heldOf, holds}
 use Rattle.channel.specs.declared.channel.Channel.{Channel}
 use Rattle.rows.specs.declared.search.Found.{Found}
 use Rattle.rows.specs.declared.search.Found.the-variants as found
-use Rattle.rows.specs.declared.search.Held.{Held}
-use Rattle.rows.specs.declared.search.Held.the-variants as held
+use Rattle.requests.specs.declared.open.Held.{Held}
+use Rattle.requests.specs.declared.open.Held.the-variants as held
 use Rattle.channel.specs.declared.row.Open.{Open}
 use Rattle.channel.specs.declared.row.Sort.{Sort}
 use Rattle.channel.specs.declared.row.Sort.the-variants.{Free, Io, In, Out}

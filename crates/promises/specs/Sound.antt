@@ -6,7 +6,7 @@ use lib.ListN.{getD}
 use Rattle.header.specs.declared.ids.RequestId.{RequestId}
 use Rattle.wire_laws.specs.Assigned.{Given}
 use Rattle.channel.specs.Rows.{freeRow}
-use Rattle.rows.specs.Search.{holds}
+use Rattle.requests.specs.Held.{holds}
 use Rattle.channel.specs.declared.row.Open.{Open}
 use Rattle.channel.specs.declared.row.Row.{Row}
 use Rattle.channel.specs.declared.row.Sort.{Sort}

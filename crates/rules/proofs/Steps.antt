@@ -6,7 +6,7 @@ use Rattle.wire.specs.declared.message.Request.{Request}
 use Rattle.channel.specs.declared.row.Open.{Open}
 use Rattle.channel.specs.declared.row.Sort.{Sort}
 use Rattle.rows.specs.declared.search.Found.{Found}
-use Rattle.rows.specs.declared.search.Held.{Held}
+use Rattle.requests.specs.declared.open.Held.{Held}
 use Rattle.rules.specs.Request.{taken}
 use Rattle.rules.specs.declared.verdict.Verdict.{Verdict}
 

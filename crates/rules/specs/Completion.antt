@@ -10,8 +10,8 @@ use Rattle.wire.specs.Message.{emptyPart}
 use Rattle.wire.specs.declared.message.IoCompleted.{IoCompleted}
 use Rattle.wire.specs.declared.message.UrbCompleted.{UrbCompleted}
 use Rattle.channel.specs.declared.row.Open.{Open}
-use Rattle.rows.specs.declared.search.Held.{Held}
-use Rattle.rows.specs.declared.search.Held.the-variants.{Nothing, Io, In, Out}
+use Rattle.requests.specs.declared.open.Held.{Held}
+use Rattle.requests.specs.declared.open.Held.the-variants.{Nothing, Io, In, Out}
 use Rattle.rules.specs.Verdict.{accepted, refused}
 use Rattle.answers.specs.declared.answer.Answer.the-variants.{NotOpen, WrongSort, TooMuch, ResultDisagrees}
 use Rattle.rules.specs.declared.verdict.Act.the-variants.{Keep, Free}

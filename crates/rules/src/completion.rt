@@ -6,7 +6,7 @@ use answers::answer::Answer;
 use answers::kind::Kind;
 use channel::row::Open;
 use header::ids::RequestId;
-use rows::search::Held;
+use requests::open::Held;
 use wire::message::IoCompleted;
 use wire::message::UrbCompleted;
 use words::hresult;

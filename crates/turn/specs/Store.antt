@@ -4,10 +4,11 @@ use Rattle.header.specs.declared.ids.Known.the-variants.{Is}
 use Rattle.wire.specs.declared.message.Asked.{Asked}
 use Rattle.wire.specs.declared.message.Asked.the-variants as asks
 use Rattle.channel.specs.Rows.{freeRow, withRow, emptied}
-use Rattle.rows.specs.Search.{heldOf, lowestOf, openCount}
+use Rattle.rows.specs.Search.{lowestOf, openCount}
+use Rattle.requests.specs.Held.{heldOf}
 use Rattle.channel.specs.declared.channel.Channel.{Channel}
-use Rattle.rows.specs.declared.search.Held.{Held}
-use Rattle.rows.specs.declared.search.Held.the-variants.{Nothing}
+use Rattle.requests.specs.declared.open.Held.{Held}
+use Rattle.requests.specs.declared.open.Held.the-variants.{Nothing}
 use Rattle.rules.specs.declared.decide.Seen.{Seen}
 use Rattle.rules.specs.declared.verdict.Act.{Act}
 use Rattle.rules.specs.declared.verdict.Act.the-variants.{Keep, Device, Callback, Take, Free, Empty}

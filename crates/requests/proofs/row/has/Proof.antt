@@ -1,7 +1,7 @@
--- `rows::row::has` meets its contract: the sort tells which row it is.
+-- `requests::row::has` meets its contract: the sort tells which row it is.
 use borrow.Author.Needs.{needs}
-use Rattle.rows.proofs.row.has.Statement.{statement}
-use Rattle.rows.proofs.row.has.Tie as tie
+use Rattle.requests.proofs.row.has.Statement.{statement}
+use Rattle.requests.proofs.row.has.Tie as tie
 
 pub has-spec : {M : Type 1} → statement M
 has-spec =

@@ -1,14 +1,15 @@
--- `rows::search::find` meets its contract. The invariant: the walk from `i` on finds what the whole walk finds.
+-- `requests::open::find` meets its contract. The invariant: the walk from `i` on finds what the whole walk finds.
 use Prim.Native.Nat.{_≤_, _-_}
 use mathlib.Core.Path.{_≡_}
 use lib.ListN.{drop, length}
 use native.Mathlib.Omega.{arith}
 use borrow.Author.Needs.{needs}
-use Rattle.rows.specs.Search.{firstFrom, holds, findOf}
+use Rattle.rows.specs.Search.{firstFrom}
+use Rattle.requests.specs.Held.{holds, findOf}
 use Rattle.rows.proofs.Steps.{first-hit, first-miss, first-none}
 use Rattle.channel.proofs.Steps.{length-of}
-use Rattle.rows.proofs.search.find.Statement.{statement}
-use Rattle.rows.proofs.search.find.Tie as tie
+use Rattle.requests.proofs.open.find.Statement.{statement}
+use Rattle.requests.proofs.open.find.Tie as tie
 
 abbrev Inv-loop : tie.InvT-loop
 Inv-loop id c i₀ i = (i ≤ 16) × (length (c .rows) ≡ 16) × (firstFrom (holds id) (drop i (c .rows)) i ≡ findOf c id)

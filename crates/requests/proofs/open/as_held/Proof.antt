@@ -1,7 +1,7 @@
--- `rows::search::as_held` meets its contract.
+-- `requests::open::as_held` meets its contract.
 use borrow.Author.Needs.{needs}
-use Rattle.rows.proofs.search.as_held.Statement.{statement}
-use Rattle.rows.proofs.search.as_held.Tie as tie
+use Rattle.requests.proofs.open.as_held.Statement.{statement}
+use Rattle.requests.proofs.open.as_held.Tie as tie
 
 pub as-held-spec : {M : Type 1} → statement M
 as-held-spec =

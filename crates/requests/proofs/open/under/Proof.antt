@@ -1,14 +1,14 @@
--- `rows::search::under` meets its contract: what stands past the last row is free.
+-- `requests::open::under` meets its contract: what stands past the last row is free.
 use Prim.Native.Nat.{_≤_}
 use mathlib.Core.Path.{_≡_}
 use lib.ListN.{length, List·getD-eq-default}
 use native.Mathlib.Omega.{arith}
 use borrow.Author.Needs.{needs}
 use Rattle.channel.specs.Rows.{freeRow}
-use Rattle.rows.specs.Search.{heldOf}
+use Rattle.requests.specs.Held.{heldOf}
 use Rattle.channel.proofs.Steps.{length-of}
-use Rattle.rows.proofs.search.under.Statement.{statement}
-use Rattle.rows.proofs.search.under.Tie as tie
+use Rattle.requests.proofs.open.under.Statement.{statement}
+use Rattle.requests.proofs.open.under.Tie as tie
 
 past : (c : tie.Else1) → length (c .before .before .before .before .before .args .t1 .rows) ≤ c .before .before .i .given .0 .0
 past c = let l : length (c .before .before .before .before .before .args .t1 .rows) ≡ 16 = search length-of in omega arith
