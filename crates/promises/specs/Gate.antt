@@ -13,7 +13,7 @@ use Rattle.answers.specs.declared.answer.Answer.{Answer}
 use Rattle.answers.specs.declared.answer.Answer.the-variants.{Accepted, NoPlace}
 use Rattle.rules.specs.declared.verdict.Verdict.{Verdict}
 use Rattle.turn.specs.Step.{afterOf, verdictOf}
-use Rattle.table.specs.Entry.{answerOf, closeEntry, judgedEntry, refusedEntry}
+use Rattle.table.specs.Entry.{answerOf, closeEntry, closeSide, judgedEntry, refusedEntry}
 use Rattle.payloads.specs.Payload.{cutOf, shownBy}
 use Rattle.places.specs.Place.{ofSide}
 use Rattle.table.specs.declared.entry.Entry.{Entry}
@@ -42,7 +42,7 @@ closedGave stamp count = record { answer = Accepted; entry = closeEntry 0 0 stam
 -- the call with journal number n
 abbrev pub gateStep : ℕ → Place → Asks → Gave × Place
 gateStep n outside (judging side stamp m) = (unplacedGave side stamp, outside)
-gateStep n outside (closing stamp) = (unplacedGave 3 stamp, outside)
+gateStep n outside (closing stamp) = (unplacedGave closeSide stamp, outside)
 gateStep n (inside c) (judging side stamp m) =
     cond (ofSide side)
     (saidGave side stamp m (verdictOf c n side m), inside (afterOf c (verdictOf c n side m)))
