@@ -1,2 +1,6 @@
 pub mod Determined
+pub mod Listing
+pub mod Pieces
+pub mod Records
 pub mod Runs
+pub mod Written

@@ -1,3 +1,6 @@
 pub mod Calls
 pub mod Journal
+pub mod Line
+pub mod Listing
+pub mod Pieces
 pub mod Record

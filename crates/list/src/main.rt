@@ -3,5 +3,5 @@ use listing::capture;
 use listing::capture::What;
 
 fn main() {
-    capture::run(What::Entries);
+    capture::run(0, What::Entries);
 }

@@ -1,31 +1,54 @@
-// Reading standard input to the last byte that is asked for.
-ghost use Prim.Native.Nat.{_≤_};
+// Reading: bytes behind those that are held already.
+ghost use mathlib.Core.Path.{_≡_};
+ghost use Prim.Native.Nat.{_-_, _≤_};
+ghost use lib.ListN.{length};
 
-pub(crate) enum Got {
-    Full,
-    // the input ended before the first byte, or in the middle
-    Nothing,
-    Cut,
-    Failed,
+pub(crate) struct Input {}
+
+impl Input {
+    // A record has at most 65,547 bytes. Twice as much is held, so that there is room behind one that is not all there yet.
+    pub const SPACE: usize = 131072;
 }
 
-// Fills a buffer. It reads by pieces, as they come.
-pub(crate) fn fill(buf: &mut [u8]) -> Got {
-    let mut done: usize = 0;
-    while done < buf.len() {
-        let part = &mut buf[done..];
-        let got = libc::read(0, part);
-        if got < 0 {
-            return Got::Failed;
-        }
-        let more = io::count(got, part);
-        if more == 0 {
-            if done == 0 {
-                return Got::Nothing;
-            }
-            return Got::Cut;
-        }
-        done += more;
+pub(crate) fn space() -> [u8; 131072]
+    ensures { λ r. ⌜ 131072 ≡ length r ⌝ }
+{
+    [0; 131072]
+}
+
+// After a read: where the bytes end that are held then. They end where they did where the input has ended.
+pub(crate) struct More {
+    pub failed: bool,
+    pub end: usize,
+}
+
+// Reads once, behind the `held` bytes at the front.
+pub(crate) fn fetch(fd: i32, bytes: &mut [u8], held: usize) -> More
+    requires { ⌜ held ≤ length (now bytes) ⌝ }
+    ensures { λ r. ⌜ (held ≤ r .end) × (r .end ≤ length (now (bytes .entry))) ⌝ }
+{
+    let part = &mut bytes[held..];
+    let got = libc::read(fd, part);
+    let count = io::count(got, part);
+    More {
+        failed: got < 0,
+        end: held + count,
     }
-    Got::Full
+}
+
+// Moves the bytes from `used` to `end` to the front, and says how many they are.
+pub(crate) fn keep(bytes: &mut [u8], used: usize, end: usize) -> usize
+    requires { ⌜ (used ≤ end) × (end ≤ length (now bytes)) ⌝ }
+    ensures { λ r. ⌜ r ≡ end - used ⌝ }
+{
+    let left = end - used;
+    if used == 0 {
+        return left;
+    }
+    let mut i: usize = 0;
+    while i < left {
+        bytes[i] = bytes[used + i];
+        i += 1;
+    }
+    left
 }

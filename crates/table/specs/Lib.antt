@@ -1,2 +1,3 @@
 pub mod Entry
+pub mod OnChannel
 pub mod Table

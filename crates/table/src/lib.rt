@@ -1,3 +1,4 @@
 // The table of 8 channels, and its calls: open, judge, close.
 pub mod entry;
+pub mod on_channel;
 pub mod table;
