@@ -1,13 +1,14 @@
--- The interface and pipe lists: one step by the count as the code tests it, and where a list ends.
-use Prim.Native.Nat.{ℕ, zero, suc, _+_, _-_, _*_, _≤_}
+-- The interface and pipe lists: one step of the interfaces as the code tests it, the pipes all at once, where a list ends, and a list in pieces.
+use Prim.Native.Nat.{ℕ, zero, suc, _+_, _-_, _*_, _/_, _%_, _≤_}
+use native.Mathlib.Nat.{add-zero, sub-zero, suc-sub-suc}
 use native.Mathlib.Numerals.{sub-one}
 use native.Mathlib.Omega.{arith}
 use mathlib.Core.Path.{_≡_, refl}
 use mathlib.Core.List.{List}
 use mathlib.Core.Bool.{Bool, true, false, cond}
 use lib.ListN.{length}
-use lib.Dec.{ltb, eqb, eqb·suc-zero}
-use borrow.Author.Tests.{ltb-false}
+use lib.Dec.{ltb, eqb, eqb·suc-zero, leb·suc-suc}
+use borrow.Author.Tests.{ltb-true, ltb-false, lt-ltb, le-ltb}
 use Rattle.words.specs.Words.{halfAt, wordAt}
 use Rattle.words.specs.Layout.{left}
 use Rattle.urb.specs.Interfaces.{interfaceField, pipeField, larger, lengthAgrees, interfacesOf, pipesOf}
@@ -20,26 +21,43 @@ unfolding interfacesOf
 interfaces-step u zero most at = refl
 interfaces-step u (suc n) most at = simp (eqb·suc-zero, sub-one)
 
-pub pipes-step : (u : List ℕ) (next : ℕ → Walk) (n at : ℕ) → pipesOf u next n at ≡ cond (eqb n 0) (next at) (cond (ltb (left u at) 12) (Fails (RanOut (at + pipeField (left u at)))) (pipesOf u next (n - 1) (at + 12)))
+-- pipes passed by their number: the bytes left hold so many whole ones, and where that is too few the next one breaks
+abbrev pub passed : ℕ → (ℕ → Walk) → ℕ → ℕ → Walk
+passed bytes next n at = cond (ltb (bytes / 12) n) (Fails (RanOut (at + 12 * (bytes / 12) + pipeField (bytes % 12)))) (next (at + 12 * n))
+
+pub pipes-closed : (u : List ℕ) (next : ℕ → Walk) (n at : ℕ) → pipesOf u next n at ≡ passed (left u at) next n at
 unfolding pipesOf
-pipes-step u next zero at = refl
-pipes-step u next (suc n) at = simp (eqb·suc-zero, sub-one)
+pipes-closed u next zero at = rw (le-ltb (left u at / 12) 0 (omega arith), add-zero at)
+pipes-closed u next (suc n) at = go (ltb (left u at) 12) refl (pipes-closed u next n (at + 12))
+  where
+    further : (k : ℕ) → at + 12 * suc k ≡ at + 12 + 12 * k
+    further k = omega arith
+
+    go : (b : Bool) → ltb (left u at) 12 ≡ b → pipesOf u next n (at + 12) ≡ passed (left u (at + 12)) next n (at + 12) → cond b (Fails (RanOut (at + pipeField (left u at)))) (pipesOf u next n (at + 12)) ≡ passed (left u at) next (suc n) at
+    go true t i =
+        let few = ltb-true (left u at) 12 t in
+        let none : left u at / 12 ≡ 0 = omega arith in
+        let all : left u at % 12 ≡ left u at = omega arith in
+        rw (none, all, lt-ltb 0 (suc n) (omega arith), add-zero at)
+    go false t i =
+        let room = ltb-false (left u at) 12 t in
+        let q = left u (at + 12) / 12 in
+        let one : left u at / 12 ≡ suc q = omega arith in
+        let same : left u at % 12 ≡ left u (at + 12) % 12 = omega arith in
+        rw (i, one, same, leb·suc-suc (suc q) n, further q, further n)
 
 never : (x : Walk) (e p : ℕ) {A : Type 0} → (x ≡ End e p → _≡_ {A = ℕ} 0 1) → x ≡ End e p → A
 never x e p f h = let z = f h in absurd (omega arith)
 
 -- pipes that are all there: what follows starts 12 bytes on for each
 pub pipes-end : (u : List ℕ) (next : ℕ → Walk) (n at e p : ℕ) → pipesOf u next n at ≡ End e p → (x : ℕ) × (next x ≡ End e p) × (x ≡ at + 12 * n) × (at ≤ length u → x ≤ length u)
-unfolding pipesOf
-pipes-end u next zero at e p h = (at, h, omega arith, λ l. l)
-pipes-end u next (suc n) at e p h = go (ltb (left u at) 12) refl h (pipes-end u next n (at + 12) e p)
+pipes-end u next n at e p h = go (ltb (left u at / 12) n) refl (rw pipes-closed at h)
   where
-    go : (b : Bool) → ltb (left u at) 12 ≡ b → cond b (Fails (RanOut (at + pipeField (left u at)))) (pipesOf u next n (at + 12)) ≡ End e p → (pipesOf u next n (at + 12) ≡ End e p → (x : ℕ) × (next x ≡ End e p) × (x ≡ at + 12 + 12 * n) × (at + 12 ≤ length u → x ≤ length u)) → (x : ℕ) × (next x ≡ End e p) × (x ≡ at + 12 * suc n) × (at ≤ length u → x ≤ length u)
-    go true t q i = never _ e p (λ z. cc) q
-    go false t q i =
-        let r = i q in
-        let room = ltb-false (left u at) 12 t in
-        (r .0, r .1, omega (arith, r .2), λ l. r .3 (omega arith))
+    go : (b : Bool) → ltb (left u at / 12) n ≡ b → cond b (Fails (RanOut (at + 12 * (left u at / 12) + pipeField (left u at % 12)))) (next (at + 12 * n)) ≡ End e p → (x : ℕ) × (next x ≡ End e p) × (x ≡ at + 12 * n) × (at ≤ length u → x ≤ length u)
+    go true t q = never _ e p (λ z. cc) q
+    go false t q =
+        let room = ltb-false (left u at / 12) n t in
+        (at + 12 * n, q, refl, λ l. omega arith)
 
 -- interfaces that are all there end behind their start and within the bytes
 pub interfaces-end : (u : List ℕ) (n most at e p : ℕ) → interfacesOf u n most at ≡ End e p → (at ≤ e) × (at ≤ length u → e ≤ length u)
@@ -57,3 +75,19 @@ interfaces-end u (suc n) most at e p h = go (ltb (left u at) 12) refl (lengthAgr
         let after = pipes-end u (interfacesOf u n (larger most (wordAt u (at + 8)))) (wordAt u (at + 8)) (at + 12) e p q in
         let rest = i (larger most (wordAt u (at + 8))) (after .0) (after .1) in
         (omega (arith, after .2, rest .0), λ l. rest .1 (after .3 (omega arith)))
+
+-- what follows a walk: it goes on where that ended, with the pipe count that it found
+abbrev pub followed : Walk → (ℕ → ℕ → Walk) → Walk
+followed (End e p) next = next e p
+followed (Fails fault) next = Fails fault
+
+followed-cond : (b : Bool) (v w : Walk) (next : ℕ → ℕ → Walk) → followed (cond b v w) next ≡ cond b (followed v next) (followed w next)
+followed-cond true v w next = refl
+followed-cond false v w next = refl
+
+-- a list is its first k interfaces, followed by the others
+pub interfaces-split : (u : List ℕ) (k n most at : ℕ) → k ≤ n → interfacesOf u n most at ≡ followed (interfacesOf u k most at) (λ e p. interfacesOf u (n - k) p e)
+unfolding interfacesOf
+interfaces-split u zero n most at l = rw (sub-zero n)
+interfaces-split u (suc k) zero most at l = absurd (omega arith)
+interfaces-split u (suc k) (suc n) most at l = rw (suc-sub-suc, pipes-closed, pipes-closed, followed-cond, followed-cond, followed-cond, interfaces-split u k n (larger most (wordAt u (at + 8))) (at + 12 + 12 * wordAt u (at + 8)) (omega arith))

@@ -7,12 +7,13 @@
 //    5  AlternateSetting       1                 8  PipeFlags            4
 //    6  Padding                2
 //    8  NumberOfPipes          4  n, at most 30
+use crate::select_configuration::SelectConfiguration;
 use words::layout::Fault;
 use words::numbers::rest;
 use words::numbers::u16_at;
 use words::numbers::u32_at;
 ghost use mathlib.Core.Path.{_≡_};
-ghost use Prim.Native.Nat.{_≤_};
+ghost use Prim.Native.Nat.{_≤_, _<_};
 ghost use Rattle.urb.specs.Interfaces.{interfaceField, pipeField, larger, lengthAgrees, interfacesOf, pipesOf};
 
 // Where a list ends and the largest NumberOfPipes in it, or what broke.
@@ -78,10 +79,30 @@ fn length_agrees(told: u32, pipes: u32) -> bool
     told as u64 == 12 + 12 * pipes as u64
 }
 
-// `left` interfaces from `at` on. The largest pipe count so far is `most`.
-//
-// The two readers call each other in tail position, one call for each interface and each pipe (docs/DECISIONS.md, 13, has the stack that they take).
+// `count` interfaces from `at` on. A message may announce any count, and a frame for each of them is more stack than it may take (docs/DECISIONS.md, 13). So
+// the two readers below walk as many at a time as a list may have (01 "TsUrb"): what is behind those only decides between 7 and 8.
+pub(crate) fn list(s: &[u8], at: usize, count: u32) -> Walk
+    ensures { λ r. ⌜ r ≡ interfacesOf (now (s .entry)) count 0 at ⌝ }
+{
+    let mut start = at;
+    let mut left = count;
+    let mut most = 0;
+    while SelectConfiguration::MOST_INTERFACES < left {
+        match interface(s, start, SelectConfiguration::MOST_INTERFACES, most) {
+            Walk::End(end, pipes) => {
+                start = end;
+                left -= SelectConfiguration::MOST_INTERFACES;
+                most = pipes;
+            }
+            Walk::Fails(fault) => return Walk::Fails(fault),
+        }
+    }
+    interface(s, start, left, most)
+}
+
+// `left` interfaces from `at` on. The largest pipe count so far is `most`. Each interface takes a frame of either reader, so `left` bounds their depth.
 pub(crate) fn interface(s: &[u8], at: usize, left: u32, most: u32) -> Walk
+    requires { ⌜ left ≤ 32 ⌝ }
     ensures { λ r. ⌜ r ≡ interfacesOf (now (s .entry)) left most at ⌝ }
 {
     if left == 0 {
@@ -99,16 +120,15 @@ pub(crate) fn interface(s: &[u8], at: usize, left: u32, most: u32) -> Walk
     }
 }
 
-// `pipes` pipes from `at` on, and then `left` interfaces.
+// `pipes` pipes from `at` on, and then `left` interfaces. No field of a pipe is looked at, so they are passed by their number.
 fn pipe(s: &[u8], at: usize, pipes: u32, left: u32, most: u32) -> Walk
+    requires { ⌜ left < 32 ⌝ }
     ensures { λ r. ⌜ r ≡ pipesOf (now (s .entry)) (interfacesOf (now (s .entry)) left most) pipes at ⌝ }
 {
-    if pipes == 0 {
-        return interface(s, at, left, most);
-    }
     let bytes = rest(s, at);
-    if bytes < 12 {
-        return Walk::Fails(Fault::RanOut(at + pipe_field(bytes)));
+    let whole = bytes / 12;
+    if whole < pipes as usize {
+        return Walk::Fails(Fault::RanOut(at + 12 * whole + pipe_field(bytes % 12)));
     }
-    pipe(s, at + 12, pipes - 1, left, most)
+    interface(s, at + 12 * pipes as usize, left, most)
 }

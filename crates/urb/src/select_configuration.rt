@@ -60,7 +60,7 @@ pub(crate) fn read(u: &[u8]) -> StructureRead
         return StructureRead::Fails(Fault::RanOut(28));
     }
     let count = u32_at(u, 28);
-    match interfaces::interface(u, 32, count, 0) {
+    match interfaces::list(u, 32, count) {
         Walk::End(end, pipes) => configuration(u, count, end, pipes),
         Walk::Fails(fault) => StructureRead::Fails(fault),
     }

@@ -1,12 +1,13 @@
--- The cycle {interface, pipe}: one measure, twice the bytes that are left, and one more in `pipe`.
-use Prim.Native.Nat.{ℕ, _<_, _-_, _+_, _*_}
+-- The cycle {interface, pipe}. From one interface to the next there are fewer of them and fewer bytes left, so the measure is twice the smaller of the two, and
+-- one more in `pipe`: with at most 32 interfaces left the readers go at most 64 calls deep.
+use Prim.Native.Nat.{ℕ, _<_, _-_, _+_, _*_, min}
 use lib.ListN.{length}
 use borrow.Author.Needs.{needs}
 use borrow.Author.Tests.{lt-ltb, le-ltb, ne-eqb}
 use borrow.Fn.Kinds.{In}
 use borrow.Fn.PlainCycle.{Measures, is, falls, and}
 use Rattle.words.proofs.Tests.{tests}
-use Rattle.urb.proofs.Walk.{interfaces-step, pipes-step}
+use Rattle.urb.proofs.Walk.{interfaces-step, pipes-closed}
 use Rattle.urb.proofs.interfaces.interface.Reads as interface
 use Rattle.urb.proofs.interfaces.interface.Kinds as interface-kinds
 use Rattle.urb.proofs.interfaces.+interface+pipe.Lts-interface as interface-lts
@@ -24,10 +25,10 @@ use Rattle.urb.proofs.interfaces.+interface+pipe.{statement}
 use Rattle.urb.proofs.interfaces.+interface+pipe.Tie.{close}
 
 abbrev μ-interface : Measures 1 interface-kinds.ps ℕ
-μ-interface κs a = 2 * (length (a .0 .now) - a .1 .0)
+μ-interface κs a = 2 * min (a .1 .1 .0) (length (a .0 .now) - a .1 .0)
 
 abbrev μ-pipe : Measures 1 pipe-kinds.ps ℕ
-μ-pipe κs a = 2 * (length (a .0 .now) - a .1 .0) + 1
+μ-pipe κs a = 2 * min (a .1 .1 .1 .0) (length (a .0 .now) - a .1 .0) + 1
 
 abbrev interface-at : ℕ → In 1 interface-kinds.ps
 interface-at t = and 1 interface-kinds.ps (is 1 interface-kinds.ps μ-interface t) interface.Pre
@@ -63,15 +64,15 @@ pub +interface+pipe-spec : {M : Type 1} → statement M
     (λ c. let k = c .before .before .before .before .before .before .before in rw (interfaces-step, ne-eqb _ _ (k .before .if1 .left), ← (k .rest .ensures), le-ltb _ _ (c .before .before .before .before .before .before .if2 .left), ← (c .before .before .before .before .before .u32-at .ensures), ← (c .before .before .before .before .u16-at .ensures), ← (c .before .before .before .length-agrees .ensures), c .before .before .if3 .taken, ← (c .before .larger-of .ensures), ← (c .pipe .ensures)))
     (λ c. let k = c .before .before .before .before .before in rw (interfaces-step, ne-eqb _ _ (k .before .if1 .left), ← (k .rest .ensures), le-ltb _ _ (c .before .before .before .before .if2 .left), ← (c .before .before .before .u32-at .ensures), ← (c .before .before .u16-at .ensures), ← (c .before .length-agrees .ensures), c .if3 .left)))
     (λ t. pipe-lts.spec
-    (interface-below t, interface.Post, rest-reads.Asked, rest-reads.Learnt, pipe-field-reads.Asked, pipe-field-reads.Learnt, pipe-below t, pipe.Post)
+    (rest-reads.Asked, rest-reads.Learnt, pipe-field-reads.Asked, pipe-field-reads.Learnt, interface-below t, interface.Post)
     (pipe-at t) pipe.Post
     (search needs)
-    (λ c. rw pipes-step (search tests))
     (search needs)
     (search needs)
     (search needs)
-    (λ c. rw (pipes-step, ne-eqb _ _ (c .before .before .before .if1 .left), ← (c .before .before .rest .ensures), lt-ltb _ _ (c .before .if2 .taken), ← (c .pipe-field .ensures .0)))
+    (search needs)
+    (λ c. rw (pipes-closed, ← (c .before .before .rest .ensures), lt-ltb _ _ (c .before .if1 .taken), ← (c .pipe-field .ensures .0)))
     (search needs)
     (search needs)
     (search needs)
-    (λ c. rw pipes-step (search (tests, ← (c .before .before .rest .ensures)))))
+    (λ c. rw (pipes-closed, ← (c .before .before .rest .ensures), le-ltb _ _ (c .before .if1 .left), ← (c .interface .ensures))))
