@@ -1,15 +1,9 @@
 // Reading: bytes behind those that are held already.
 ghost use mathlib.Core.Path.{_≡_};
 ghost use Prim.Native.Nat.{_-_, _≤_};
-ghost use lib.ListN.{length};
+ghost use lib.ListN.{drop, length, take};
 
-pub(crate) struct Input {}
-
-impl Input {
-    // A record has at most 65,547 bytes. Twice as much is held, so that there is room behind one that is not all there yet.
-    pub const SPACE: usize = 131072;
-}
-
+// Room for twice the longest record, which has 65,547 bytes: what is left of a read is less than a record, so there is always as much again to read into.
 pub(crate) fn space() -> [u8; 131072]
     ensures { λ r. ⌜ 131072 ≡ length r ⌝ }
 {
@@ -39,7 +33,7 @@ pub(crate) fn fetch(fd: i32, bytes: &mut [u8], held: usize) -> More
 // Moves the bytes from `used` to `end` to the front, and says how many they are.
 pub(crate) fn keep(bytes: &mut [u8], used: usize, end: usize) -> usize
     requires { ⌜ (used ≤ end) × (end ≤ length (now bytes)) ⌝ }
-    ensures { λ r. ⌜ r ≡ end - used ⌝ }
+    ensures { λ r. ⌜ (r ≡ end - used) × (take r (now (bytes .exit)) ≡ take r (drop used (now (bytes .entry)))) ⌝ }
 {
     let left = end - used;
     if used == 0 {
