@@ -3,4 +3,3 @@ pub mod Listing
 pub mod Pieces
 pub mod Records
 pub mod Runs
-pub mod Written

@@ -1,6 +1,5 @@
 pub mod Calls
 pub mod Journal
-pub mod Line
 pub mod Listing
 pub mod Pieces
 pub mod Record

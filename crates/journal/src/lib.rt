@@ -1,4 +1,3 @@
-// The journal: what a run of calls gives; a record of a capture as a call, an entry as its line, and a piece of a capture as the lines of its records.
-mod line;
+// The journal: what a run of calls gives; a record of a capture as a call, and a piece of a capture as the lines of its records.
 pub mod piece;
 pub mod record;
