@@ -1,5 +1,5 @@
-// The listings of several captures, one behind the other: of the files that the arguments name, and for `-` of standard input. Behind `--payloads` the
-// payloads are listed instead.
+// The listings of several captures, one behind the other: of the files that the arguments name, and for `-` of standard input. Behind `--payloads`, which is any longer word that
+// begins like it, the payloads are listed instead.
 use listing::capture;
 use listing::capture::What;
 

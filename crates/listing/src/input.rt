@@ -3,7 +3,7 @@ ghost use mathlib.Core.Path.{_≡_};
 ghost use Prim.Native.Nat.{_-_, _≤_};
 ghost use lib.ListN.{drop, length, take};
 
-// Room for twice the longest record, which has 65,547 bytes: what is left of a read is less than a record, so there is always as much again to read into.
+// What is left of a read is less than a record, which has at most 65,547 bytes, so there is always room for more.
 pub(crate) fn space() -> [u8; 131072]
     ensures { λ r. ⌜ 131072 ≡ length r ⌝ }
 {

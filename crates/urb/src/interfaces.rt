@@ -80,7 +80,7 @@ fn length_agrees(told: u32, pipes: u32) -> bool
 }
 
 // `count` interfaces from `at` on. A message may announce any count, and a frame for each of them is more stack than it may take (docs/DECISIONS.md, 13). So
-// the two readers below walk as many at a time as a list may have (01 "TsUrb"): what is behind those only decides between 7 and 8.
+// the two readers below walk as many at a time as a list may have (01 "Bodies after the 12 bytes"): what is behind those only decides between 7 and 8.
 pub(crate) fn list(s: &[u8], at: usize, count: u32) -> Walk
     ensures { λ r. ⌜ r ≡ interfacesOf (now (s .entry)) count 0 at ⌝ }
 {
@@ -100,7 +100,7 @@ pub(crate) fn list(s: &[u8], at: usize, count: u32) -> Walk
     interface(s, start, left, most)
 }
 
-// `left` interfaces from `at` on. The largest pipe count so far is `most`. Each interface takes a frame of either reader, so `left` bounds their depth.
+// `left` interfaces from `at` on. The largest pipe count so far is `most`. Each interface takes a frame of each of the two readers, so `left` bounds their depth.
 pub(crate) fn interface(s: &[u8], at: usize, left: u32, most: u32) -> Walk
     requires { ⌜ left ≤ 32 ⌝ }
     ensures { λ r. ⌜ r ≡ interfacesOf (now (s .entry)) left most at ⌝ }
