@@ -1,4 +1,5 @@
-// 01's answers and kinds with their numbers, and the phases of the kinds.
+// 01's answers and kinds with their numbers, the phases of the kinds, and what an entry of the journal is.
 pub mod answer;
+pub mod entry;
 pub mod kind;
 pub mod phase;

@@ -14,7 +14,7 @@ use Rattle.channel.specs.declared.row.Sort.{Sort}
 use Rattle.channel.specs.declared.row.Sort.the-variants.{Free, Io, In, Out}
 use Rattle.channel.proofs.Laws.{set-read}
 use Rattle.table.specs.Table.{blankChannel, channelOf, numbered, withChannel}
-use Rattle.table.specs.declared.entry.Entry.{Entry}
+use Rattle.answers.specs.declared.entry.Entry.{Entry}
 use Rattle.table.specs.declared.table.Table.{Table}
 use Rattle.journal.specs.Calls.{after}
 use Rattle.promises.specs.Names.{Among, Names}

@@ -29,8 +29,8 @@ use Rattle.turn.specs.Store.{stored}
 use Rattle.table.specs.Entry.{acceptedEntry, answerOf, closeEntry, judgedEntry, refusedEntry}
 use Rattle.table.specs.Table.{blankChannel, channelOf, closeOf, judgedBy, judgeOf, moved, openOf, unplaced}
 use Rattle.places.specs.Place.{noPlace, ofSide, usedUp}
-use Rattle.table.specs.declared.entry.Entry.{Entry}
-use Rattle.table.specs.declared.entry.Noted.the-variants.{Nothing, Is}
+use Rattle.answers.specs.declared.entry.Entry.{Entry}
+use Rattle.answers.specs.declared.entry.Noted.the-variants.{Nothing, Is}
 use Rattle.table.specs.declared.table.Judged.{Judged}
 use Rattle.table.specs.declared.table.Table.{Table}
 use Rattle.journal.specs.Calls.{Asks, Call, called, calledBy, closing, judging}

@@ -19,8 +19,8 @@ use Rattle.table.specs.Entry.{answerOf, judgedEntry}
 use Rattle.payloads.specs.Payload.{cutOf, payloadOf, shownBy, shownOf}
 use Rattle.table.specs.Table.{blankChannel, channelOf, closeOf, judgeOf}
 use Rattle.places.specs.Place.{ofSide, usedUp}
-use Rattle.table.specs.declared.entry.Entry.{Entry}
-use Rattle.table.specs.declared.entry.Noted.the-variants.{Is}
+use Rattle.answers.specs.declared.entry.Entry.{Entry}
+use Rattle.answers.specs.declared.entry.Noted.the-variants.{Is}
 use Rattle.table.specs.declared.table.Table.{Table}
 use Rattle.journal.specs.Calls.{after, Asks, Call, called, calledBy, closing, judging}
 use Rattle.order.specs.Machine.{Given, ends, gives}

@@ -11,8 +11,8 @@ use Rattle.channel.specs.declared.row.Sort.the-variants.{In}
 use Rattle.answers.specs.Answer.{answerNumber}
 use Rattle.payloads.specs.Payload.{payloadOf}
 use Rattle.table.specs.Table.{channelOf, openOf}
-use Rattle.table.specs.declared.entry.Noted.{Noted}
-use Rattle.table.specs.declared.entry.Noted.the-variants.{Nothing, Is}
+use Rattle.answers.specs.declared.entry.Noted.{Noted}
+use Rattle.answers.specs.declared.entry.Noted.the-variants.{Nothing, Is}
 use Rattle.table.specs.declared.table.Table.{Table}
 use Rattle.journal.specs.Calls.{after, Asks, Call, called, closing, judging}
 

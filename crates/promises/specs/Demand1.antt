@@ -4,8 +4,8 @@ use mathlib.Core.Path.{_≡_}
 use mathlib.Core.Logic.{_≢_}
 use Rattle.answers.specs.Answer.{answerNumber}
 use Rattle.table.specs.Table.{numbered}
-use Rattle.table.specs.declared.entry.Entry.{Entry}
-use Rattle.table.specs.declared.entry.Noted.the-variants.{Nothing, Is}
+use Rattle.answers.specs.declared.entry.Entry.{Entry}
+use Rattle.answers.specs.declared.entry.Noted.the-variants.{Nothing, Is}
 use Rattle.table.specs.declared.table.Judged.{Judged}
 use Rattle.table.specs.declared.table.Table.{Table}
 use Rattle.journal.specs.Calls.{Call, sideBy, stampBy}

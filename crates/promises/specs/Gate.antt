@@ -16,7 +16,7 @@ use Rattle.turn.specs.Step.{afterOf, verdictOf}
 use Rattle.table.specs.Entry.{answerOf, closeEntry, closeSide, judgedEntry, refusedEntry}
 use Rattle.payloads.specs.Payload.{cutOf, shownBy}
 use Rattle.places.specs.Place.{ofSide}
-use Rattle.table.specs.declared.entry.Entry.{Entry}
+use Rattle.answers.specs.declared.entry.Entry.{Entry}
 use Rattle.journal.specs.Calls.{Asks, judging, closing}
 
 -- a channel, or where there is none: a channel above 7

@@ -2,9 +2,9 @@
 use Prim.Native.Nat.{ℕ}
 use mathlib.Core.List.{List, [], _∷_}
 use Rattle.answers.specs.declared.answer.Answer.{Answer}
-use Rattle.table.specs.declared.entry.Entry.{Entry}
-use Rattle.table.specs.declared.entry.Noted.{Noted}
-use Rattle.table.specs.declared.entry.Noted.the-variants.{Nothing, Is}
+use Rattle.answers.specs.declared.entry.Entry.{Entry}
+use Rattle.answers.specs.declared.entry.Noted.{Noted}
+use Rattle.answers.specs.declared.entry.Noted.the-variants.{Nothing, Is}
 use Rattle.table.specs.declared.table.Table.{Table}
 use Rattle.journal.specs.Calls.{Asks, Call, called}
 use Rattle.order.specs.Machine.{Tagged}

@@ -1,8 +1,8 @@
 -- The stamp, as a caller gives it and as an entry carries it.
 use Prim.Native.Nat.{ℕ}
-use Rattle.table.specs.declared.entry.Entry.{Entry}
-use Rattle.table.specs.declared.entry.Noted.{Noted}
-use Rattle.table.specs.declared.entry.Noted.the-variants.{Nothing, Is}
+use Rattle.answers.specs.declared.entry.Entry.{Entry}
+use Rattle.answers.specs.declared.entry.Noted.{Noted}
+use Rattle.answers.specs.declared.entry.Noted.the-variants.{Nothing, Is}
 use Rattle.table.specs.declared.table.Judged.{Judged}
 use Rattle.journal.specs.Calls.{Asks, Call, judging, closing}
 
