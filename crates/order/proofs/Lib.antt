@@ -1,3 +1,4 @@
 pub mod Renumber
 pub mod Alone
 pub mod Reorder
+pub mod Ledger

@@ -18,10 +18,10 @@ use Rattle.turn.specs.Admit.{admitted, asksIn, fromHeader}
 use Rattle.turn.specs.Step.{afterOf, verdictOf}
 use Rattle.turn.specs.Store.{hereOf, stored}
 use Rattle.table.specs.Entry.{answerOf, judgedEntry}
-use Rattle.payloads.specs.Payload.{cutOf, payloadOf, shownOf}
+use Rattle.payloads.specs.Payload.{cutOf, payloadOf, shownOf, startIn, startOf}
 use Rattle.table.specs.Table.{closeOf, judgeOf}
 use Rattle.promises.specs.Cases.{Case, cases, outcome}
 
 pub cases-hold : map outcome cases ≡ map (λ (k : Case). k .shows) cases
-unfolding cases judgeOf closeOf payloadOf shownOf cutOf answerOf judgedEntry afterOf verdictOf hereOf stored admitted asksIn fromHeader decided opened taken firstFrom heldOf openCount headerOf askedOf transferInRequestOf transferInRequestAllowed transferOf transferWith outputOf tsUrbOf structureOf oneSizeOf urbCompletionOf withOutputOf completionOf completionWith completedOf cancelRequestOf readingOf
+unfolding cases judgeOf closeOf payloadOf startOf shownOf cutOf startIn answerOf judgedEntry afterOf verdictOf hereOf stored admitted asksIn fromHeader decided opened taken firstFrom heldOf openCount headerOf askedOf transferInRequestOf transferInRequestAllowed transferOf transferWith outputOf tsUrbOf structureOf oneSizeOf urbCompletionOf withOutputOf completionOf completionWith completedOf cancelRequestOf readingOf
 cases-hold = refl

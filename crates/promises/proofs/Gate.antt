@@ -11,7 +11,8 @@ use Rattle.table.specs.Entry.{answerOf, judgedEntry}
 use Rattle.places.specs.Place.{ofSide}
 use Rattle.journal.specs.Calls.{Asks, judging, closing}
 use Rattle.order.specs.Machine.{Machine}
-use Rattle.promises.specs.Gate.{gateStep, Gave, inside, outside, Place, renChannel, renGave, renPlace, saidGave, unplacedGave}
+use Rattle.promises.specs.Demand3.{renChannel}
+use Rattle.promises.specs.Gate.{gateStep, Gave, inside, outside, Place, renGave, renPlace, saidGave, unplacedGave}
 use Rattle.promises.proofs.GateLaw.{after-ren, count-ren, free-rows-ren, renVerdict, verdict-ren}
 
 pub new-ren : (f : ℕ → ℕ) → renChannel f newChannel ≡ newChannel

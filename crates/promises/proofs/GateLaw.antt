@@ -37,7 +37,7 @@ use Rattle.turn.specs.Step.{afterOf, verdictBy, verdictOf}
 use Rattle.turn.specs.Store.{hereOf, seenOf, stored}
 use Rattle.turn.specs.declared.admit.Admitted.{Admitted}
 use Rattle.turn.specs.declared.admit.Admitted.the-variants as admit
-use Rattle.promises.specs.Gate.{renChannel, renOpen, renRow, renSort}
+use Rattle.promises.specs.Demand3.{renChannel, renOpen, renRow, renSort}
 
 -- ---- what is found in rows whose numbers are others
 holds-ren : (f : ℕ → ℕ) (id : RequestId) (s : Sort) → holds id (record { sort = renSort f s }) ≡ holds id (record { sort = s })

@@ -37,11 +37,17 @@ pub record Backed (h : List Entry) (d : ℕ) (s : Sort) (o : Open) : Type 0 wher
   pub kind : kindFor s (request .kind) ≡ true
   pub unnamed : (q : Entry) → Among q h → q .cause ≢ o .number
 
+abbrev pub Once : List Entry → Type 0
+Once h = (p q : Entry) → Among p h → Among q h → p .number ≡ q .number → p ≡ q
+
 pub record Kept (h : List Entry) (t : Table) : Type 0 where
   pub size : length (t .channels) ≡ 8
   pub rows : (d i : ℕ) (o : Open) → Holds (rowIn t d i .sort) o → Backed h d (rowIn t d i .sort) o
   pub apart : (d i e j : ℕ) (o p : Open) → Holds (rowIn t d i .sort) o → Holds (rowIn t e j .sort) p → o .number ≡ p .number → (d ≡ e) × (i ≡ j)
   pub causes : (q : Entry) → Among q h → q .cause < t .next
+  -- and no two entries have one number
+  pub numbers : (q : Entry) → Among q h → q .number < t .next
+  pub once : Once h
 
 pub used : (n : ℕ) (s : Sort) (o : Open) → Numbered n s → Holds s o → Used n o
 used n Free o u h = absurd h
@@ -73,15 +79,28 @@ more-causes : (h : List Entry) (e : Entry) (n m : ℕ) → n ≤ m → e .cause 
 more-causes h e n m l b f q (inl p) = let z = ap (λ (x : Entry). x .cause) p in omega (arith, b)
 more-causes h e n m l b f q (inr i) = let z = f q i in omega arith
 
+-- an entry with the next number
+more-numbers : (h : List Entry) (e : Entry) (n m : ℕ) → m ≡ n + 1 → e .number ≡ n → ((q : Entry) → Among q h → q .number < n) → (q : Entry) → Among q (e ∷ h) → q .number < m
+more-numbers h e n m l b f q (inl p) = let z = ap (λ (x : Entry). x .number) p in omega (arith, b)
+more-numbers h e n m l b f q (inr i) = let z = f q i in omega arith
+
+more-once : (h : List Entry) (e : Entry) (n : ℕ) → e .number ≡ n → ((q : Entry) → Among q h → q .number < n) → Once h → Once (e ∷ h)
+more-once h e n b f o p q (inl x) (inl y) z = x ∙ sym y
+more-once h e n b f o p q (inl x) (inr y) z = let w = ap (λ (r : Entry). r .number) x in let v = f q y in absurd (omega (arith, b, z))
+more-once h e n b f o p q (inr x) (inl y) z = let w = ap (λ (r : Entry). r .number) y in let v = f p x in absurd (omega (arith, b, z))
+more-once h e n b f o p q (inr x) (inr y) z = o p q x y z
+
 -- a call after which no row is open that was not before
-pub less : (h : List Entry) (e : Entry) (t u : Table) → Kept h t → length (u .channels) ≡ 8 → t .next ≤ u .next → e .cause < u .next
+pub less : (h : List Entry) (e : Entry) (t u : Table) → Kept h t → length (u .channels) ≡ 8 → u .next ≡ t .next + 1 → e .number ≡ t .next → e .cause < u .next
     → ((d i : ℕ) (o : Open) → Holds (rowIn u d i .sort) o → rowIn u d i .sort ≡ rowIn t d i .sort)
     → ((d i : ℕ) (o : Open) → Holds (rowIn u d i .sort) o → e .cause ≢ o .number) → Kept (e ∷ h) u
-less h e t u k l n b same ne = record {
+less h e t u k l n num b same ne = record {
   size = l;
   rows = λ d i o p. subst (λ s. Backed (e ∷ h) d s o) (sym (same d i o p)) (more h e d (rowIn t d i .sort) o (ne d i o p) (k .rows d i o (subst (λ s. Holds s o) (same d i o p) p)));
   apart = λ d i f j o p x y z. k .apart d i f j o p (subst (λ s. Holds s o) (same d i o x) x) (subst (λ s. Holds s p) (same f j p y) y) z;
-  causes = more-causes h e (t .next) (u .next) n b (k .causes);
+  causes = more-causes h e (t .next) (u .next) (omega (arith, n)) b (k .causes);
+  numbers = more-numbers h e (t .next) (u .next) n num (k .numbers);
+  once = more-once h e (t .next) num (k .numbers) (k .once);
 }
 
 -- a row is as it was before, or it is that of the call's own entry
@@ -99,6 +118,8 @@ one-more h e t u ch at k s l n one c0 num ans chan from = record {
   rows = λ d i o p. rows′ d i o p (from d i o p);
   apart = λ d i f j o p x y z. apart′ d i f j o p x y z (from d i o x) (from f j p y);
   causes = more-causes h e (t .next) (u .next) (omega arith) (omega arith) (k .causes);
+  numbers = more-numbers h e (t .next) (u .next) n num (k .numbers);
+  once = more-once h e (t .next) num (k .numbers) (k .once);
 }
   where
     unnamed′ : (o : Open) → o .number ≡ t .next → (q : Entry) → Among q (e ∷ h) → q .cause ≢ o .number

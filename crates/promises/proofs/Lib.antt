@@ -6,11 +6,13 @@ pub mod Demand1
 pub mod Stamp
 pub mod Sound
 pub mod Cases
+pub mod FourPrograms
 pub mod GateLaw
 pub mod Gate
 pub mod Runs
-pub mod Demand3
 pub mod Kinded
 pub mod Story
 pub mod Kept
 pub mod Names
+pub mod Journalled
+pub mod Demand3

@@ -57,7 +57,7 @@ module _ (h : List Entry) (t : Table) (ch side stamp : ℕ) (k : Kept h t) (s : 
       let u = put t ch (stored (channelOf t ch) (a .phase) x) in
       let same = sub t ch (stored (channelOf t ch) (a .phase) x) f in (
         names-none h _ c (λ z. n),
-        less h _ t u k (length-put t ch _ (k .size)) (omega arith) (omega (arith, c)) same
+        less h _ t u k (length-put t ch _ (k .size)) refl refl (omega (arith, c)) same
             (λ d i o p z. let v = row-used t s d i o (subst (λ q. Holds q o) (same d i o p) p) in absurd (omega (arith, z, c, v .0))),
       )
 
@@ -107,10 +107,11 @@ module _ (h : List Entry) (t : Table) (ch side stamp : ℕ) (k : Kept h t) (s : 
         channel = b .channel;
         id = b .id ∙ w .id;
         kind = w .may (b .request .kind) (b .kind);
+        only = λ q m z. k .once q (b .request) m (b .there) (z ∙ sym (b .number ∙ w .number));
       };
       first = λ l q m z. b .unnamed q m (z ∙ sym (w .number));
     },
-    less h _ t u k (length-put t ch _ (k .size)) (omega arith) (omega (arith, w .number, used′ .1)) same others,
+    less h _ t u k (length-put t ch _ (k .size)) refl refl (omega (arith, w .number, used′ .1)) same others,
   )
     where
       c′ : Channel
@@ -160,9 +161,9 @@ abbrev Well : List Entry → Judged → Type 0
 Well h j = ((j .entry ≡ Nothing) × Kept h (j .table)) ⊎ ((e : Entry) × ((j .entry ≡ Is e) × Names h e × Kept (e ∷ h) (j .table)))
 
 -- an entry that names none, and rows that are as they were
-still : (h : List Entry) (e : Entry) (t u : Table) → Kept h t → Sound t → e .cause ≡ 0 → u .next ≡ t .next + 1 → u .channels ≡ t .channels → Kept (e ∷ h) u
-still h e t u k s c n l =
-    less h e t u k (ap length l ∙ k .size) (omega (arith, n)) (omega (arith, n, c))
+still : (h : List Entry) (e : Entry) (t u : Table) → Kept h t → Sound t → e .number ≡ t .next → e .cause ≡ 0 → u .next ≡ t .next + 1 → u .channels ≡ t .channels → Kept (e ∷ h) u
+still h e t u k s num c n l =
+    less h e t u k (ap length l ∙ k .size) n num (omega (arith, n, c))
     (λ d i o p. ap (λ (x : List Channel). rowOf (getD x d blankChannel) i .sort) l)
     (λ d i o p z. let v = row-used t s d i o (subst (λ (x : List Channel). Holds (rowOf (getD x d blankChannel) i .sort) o) l p) in absurd (omega (arith, z, c, v .0)))
 
@@ -170,14 +171,14 @@ said-well : (h : List Entry) (t : Table) (ch side stamp : ℕ) → Kept h t → 
     → (v : Verdict) → Proper v → Story (channelOf t ch) (t .next) v → Well h (judgedBy t ch side stamp v)
 unfolding afterOf answerOf judgedEntry
 said-well h t ch side stamp k s one low (verdict.Refused kind a) p w =
-    inr (refusedEntry (t .next) ch side stamp kind a, (refl, names-none h _ refl (λ z. absurd (omega (arith, z, p .0))), still h _ t _ k s refl refl (set-same (t .channels) ch blankChannel)))
+    inr (refusedEntry (t .next) ch side stamp kind a, (refl, names-none h _ refl (λ z. absurd (omega (arith, z, p .0))), still h _ t _ k s refl refl refl (set-same (t .channels) ch blankChannel)))
 said-well h t ch side stamp k s one low (verdict.Accepted a) p w =
     let f = by-act h t ch side stamp k s one low a (a .act) w in
     inr (acceptedEntry (t .next) ch side stamp a, (refl, f .0, f .1))
 
 unplaced-well : (h : List Entry) (t : Table) (ch side stamp : ℕ) → Kept h t → Sound t → Well h (unplaced t ch side stamp)
 unplaced-well h t ch side stamp k s =
-    inr (refusedEntry (t .next) ch side stamp 0 answer.NoPlace, (refl, names-none h _ refl (λ z. absurd (omega (arith, z))), still h _ t _ k s refl refl refl))
+    inr (refusedEntry (t .next) ch side stamp 0 answer.NoPlace, (refl, names-none h _ refl (λ z. absurd (omega (arith, z))), still h _ t _ k s refl refl refl refl))
 
 closed-well : (h : List Entry) (t : Table) (ch stamp : ℕ) → Kept h t → Sound t
     → Well h (moved t ch newChannel answer.Accepted (closeEntry (t .next) ch stamp (openCount (channelOf t ch .rows))))
@@ -187,7 +188,7 @@ closed-well h t ch stamp k s =
       (
         refl,
         names-none h _ refl (λ z l u. omega arith),
-        less h _ t (put t ch newChannel) k (length-put t ch newChannel (k .size)) (omega arith) (omega arith) same
+        less h _ t (put t ch newChannel) k (length-put t ch newChannel (k .size)) refl refl (omega arith) same
             (λ d i o p z. let v = row-used t s d i o (subst (λ q. Holds q o) (same d i o p) p) in absurd (omega (arith, z, v .0))),
       ),
     )
@@ -233,6 +234,8 @@ new-kept first = record {
   rows = λ d i o p. absurd (none 8 d i o p);
   apart = λ d i f j o p x y z. absurd (none 8 d i o x);
   causes = λ q m. absurd m;
+  numbers = λ q m. absurd m;
+  once = λ p q m. absurd m;
 }
   where
     none : (n d i : ℕ) (o : Open) → Holds (rowOf (getD (replicate n newChannel) d blankChannel) i .sort) o → ⊥
@@ -243,7 +246,7 @@ new-kept first = record {
     none (suc n) zero i o p = subst (λ (r : Row). Holds (r .sort) o) (all-alike 16 freeRow i) p
     none (suc n) (suc d) i o p = none n d i o p
 
--- In every journal of a run from a new table: each accepted completion names one earlier accepted request of its own channel, with its RequestId and of a kind that it may close; and of
+-- In every journal of a run from a new table: each accepted completion names one earlier accepted request of its own channel, and one alone, with its RequestId and of a kind that it may close; and of
 -- all entries that name one, no two name the same.
 pub all-name : (first : ℕ) (xs : List Call) → AllName [] (journalOf (openOf first) xs)
 all-name first xs = run-names [] (openOf first) xs (new-kept first) (sound-open first)

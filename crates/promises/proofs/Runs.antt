@@ -16,7 +16,7 @@ use Rattle.rules.specs.declared.verdict.Verdict.{Verdict}
 use Rattle.rules.specs.declared.verdict.Verdict.the-variants.{Refused, Accepted}
 use Rattle.turn.specs.Step.{afterOf, verdictOf}
 use Rattle.table.specs.Entry.{answerOf, judgedEntry}
-use Rattle.payloads.specs.Payload.{cutOf, payloadOf, shownBy, shownOf}
+use Rattle.payloads.specs.Payload.{cutOf, payloadOf, shownBy, shownOf, startIn, startOf}
 use Rattle.table.specs.Table.{blankChannel, channelOf, closeOf, judgeOf}
 use Rattle.places.specs.Place.{ofSide, usedUp}
 use Rattle.answers.specs.declared.entry.Entry.{Entry}
@@ -25,7 +25,7 @@ use Rattle.table.specs.declared.table.Table.{Table}
 use Rattle.journal.specs.Calls.{after, Asks, Call, called, calledBy, closing, judging}
 use Rattle.order.specs.Machine.{Given, ends, gives}
 use Rattle.promises.specs.Gate.{gateStep, Gave, inside, outside, Place, saidGave}
-use Rattle.promises.specs.Runs.{Done, doneBy, run, tagged}
+use Rattle.promises.specs.Demand3.{Done, doneBy, run, tagged}
 use Rattle.promises.proofs.Gate.{gate}
 
 -- a call of the machine's run, as the real one gives it: the entry gets its number and its channel
@@ -34,7 +34,7 @@ entryOf g =
     record { number = g .number; channel = g .chan; side = g .out .entry .side; kind = g .out .entry .kind; answer = g .out .entry .answer; request = g .out .entry .request; cause = g .out .entry .cause; size = g .out .entry .size; stamp = g .out .entry .stamp }
 
 abbrev pub doneOf : Given Gave → Done
-doneOf g = record { channel = g .chan; answer = g .out .answer; entry = Is (entryOf g); payload = g .out .payload }
+doneOf g = record { channel = g .chan; answer = g .out .answer; entry = Is (entryOf g); payload = g .out .payload; start = g .out .start }
 
 abbrev places : Table → List Place
 places t = map inside (t .channels)
@@ -61,18 +61,22 @@ get-inside [] i h = absurd (omega arith)
 get-inside (x ∷ l) zero h = refl
 get-inside (x ∷ l) (suc i) h = get-inside l i (omega arith)
 
--- the empty part has no bytes
+-- the empty part has no bytes, and lies where the message starts
 cut-empty : (m : List ℕ) → cutOf m emptyPart ≡ []
 unfolding cutOf
 cut-empty m = rw (le-ltb (length m) 0 (omega arith), le-ltb (length m - 0) 0 (omega arith))
 
+start-empty : (m : List ℕ) → startIn m emptyPart ≡ 0
+unfolding startIn
+start-empty m = rw (le-ltb (length m) 0 (omega arith), le-ltb (length m - 0) 0 (omega arith))
+
 -- a call on a channel above 7
 tied-outside : (t : Table) (channel : ℕ) (a : Asks) → usedUp (t .next) ≡ false → length (t .channels) ≡ 8 → 8 ≤ channel → Tied t channel a outside
-unfolding judgeOf closeOf payloadOf shownOf
+unfolding judgeOf closeOf payloadOf startOf shownOf
 tied-outside t channel (judging side stamp m) u l h =
     let b : ltb 7 channel ≡ true = lt-ltb 7 channel (omega arith) in
     let o : length (places t) ≤ channel = rw length-map (omega arith) in
-    record { done = rw (u, b, cut-empty m); next = rw (u, b); size = rw (u, b); table = rw (u, b) (sym (set-out (places t) channel outside o)) }
+    record { done = rw (u, b, cut-empty m, start-empty m); next = rw (u, b); size = rw (u, b); table = rw (u, b) (sym (set-out (places t) channel outside o)) }
 tied-outside t channel (closing stamp) u l h =
     let b : ltb 7 channel ≡ true = lt-ltb 7 channel (omega arith) in
     let o : length (places t) ≤ channel = rw length-map (omega arith) in
@@ -91,7 +95,7 @@ entry-as n channel side stamp m (Accepted a) = refl
 
 -- a call on one of the 8, by the tests of the two
 tied-inside : (t : Table) (channel : ℕ) (a : Asks) → usedUp (t .next) ≡ false → length (t .channels) ≡ 8 → channel < 8 → Tied t channel a (inside (channelOf t channel))
-unfolding judgeOf closeOf payloadOf shownOf
+unfolding judgeOf closeOf payloadOf startOf shownOf
 tied-inside t channel (judging side stamp m) u l h = go (ofSide side) refl
   where
     b : ltb 7 channel ≡ false
@@ -105,13 +109,13 @@ tied-inside t channel (judging side stamp m) u l h = go (ofSide side) refl
 
     go : (o : Bool) → ofSide side ≡ o → Tied t channel (judging side stamp m) (inside (channelOf t channel))
     go true o = record {
-      done = rw (u, b, o) (ap (λ (e : Entry). record { channel = channel; answer = answerOf w; entry = Is e; payload = cutOf m (shownBy w) }) (entry-as (t .next) channel side stamp m w));
+      done = rw (u, b, o) (ap (λ (e : Entry). record { channel = channel; answer = answerOf w; entry = Is e; payload = cutOf m (shownBy w); start = startIn m (shownBy w) }) (entry-as (t .next) channel side stamp m w));
       next = rw (u, b, o);
       size = rw (u, b, o, length-set);
       table = rw (u, b, o) (map-set (t .channels) channel (afterOf (channelOf t channel) w));
     }
     go false o = record {
-      done = rw (u, b, o, cut-empty m);
+      done = rw (u, b, o, cut-empty m, start-empty m);
       next = rw (u, b, o);
       size = rw (u, b, o);
       table = rw (u, b, o) (sym (set-same (places t) channel (inside (channelOf t channel)) here (rw length-map (omega arith))));

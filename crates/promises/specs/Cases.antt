@@ -1,27 +1,28 @@
 -- 01 "Shown of the rules themselves": the cases C1 to C12, each with what the document says of it. Stamps are made up; no case has one.
-use Prim.Native.Nat.{ℕ, zero, suc, _+_}
+use Prim.Native.Nat.{ℕ}
 use mathlib.Core.List.{List, [], _∷_, _++_}
-use lib.ListN.{replicate, take}
+use lib.ListN.{length, replicate, take}
 use Rattle.header.specs.declared.ids.Known.the-variants as known
 use Rattle.header.specs.declared.ids.RequestId.{RequestId}
 use Rattle.channel.specs.Rows.{freeRow, newChannel}
-use Rattle.channel.specs.declared.channel.Channel.{Channel}
 use Rattle.channel.specs.declared.row.Row.{Row}
 use Rattle.channel.specs.declared.row.Sort.the-variants.{In}
 use Rattle.answers.specs.Answer.{answerNumber}
-use Rattle.payloads.specs.Payload.{payloadOf}
-use Rattle.table.specs.Table.{channelOf, openOf}
+use Rattle.table.specs.Table.{openOf}
 use Rattle.answers.specs.declared.entry.Noted.{Noted}
 use Rattle.answers.specs.declared.entry.Noted.the-variants.{Nothing, Is}
 use Rattle.table.specs.declared.table.Table.{Table}
 use Rattle.journal.specs.Calls.{after, Asks, Call, called, closing, judging}
+use Rattle.promises.specs.Demand3.{payloadBy, startBy, upFrom}
 
--- what is shown of a call: its answer's number, its entry, its payload, and the rows of channel 0 afterwards
+-- what is shown of a call: how long its message is, its answer's number, its entry, its payload with the byte at which it starts, and the whole table afterwards
 pub record Shown : Type 0 where
+  pub size : ℕ
   pub answer : ℕ
   pub entry : Noted
   pub payload : List ℕ
-  pub rows : List Row
+  pub start : ℕ
+  pub table : Table
 
 -- a call on the table that other calls have left
 pub record Case : Type 0 where
@@ -30,29 +31,32 @@ pub record Case : Type 0 where
   pub call : Call
   pub shows : Shown
 
-abbrev pub payloadBy : Table → ℕ → Asks → List ℕ
-payloadBy t channel (judging side stamp m) = payloadOf t channel side m
-payloadBy t channel (closing stamp) = []
+abbrev pub sizeBy : Asks → ℕ
+sizeBy (judging side stamp m) = length m
+sizeBy (closing stamp) = 0
 
 abbrev pub shown : Table → Call → Shown
 shown t x =
-    record { answer = answerNumber (called t x .answer); entry = called t x .entry; payload = payloadBy t (x .channel) (x .asks); rows = channelOf (called t x .table) 0 .rows }
+    record { size = sizeBy (x .asks); answer = answerNumber (called t x .answer); entry = called t x .entry; payload = payloadBy t (x .channel) (x .asks); start = startBy t (x .channel) (x .asks); table = called t x .table }
 
 abbrev pub outcome : Case → Shown
 outcome k = shown (after (k .start) (k .before)) (k .call)
 
--- ready: channel 0 in phase 5, device 4, callback 5, no rows, NoAck 0; other channels new; next 10
-abbrev pub readyChannel : Channel
-readyChannel =
-    record { phase = 5; device = known.Is (record { 0 = 4 }); callback = known.Is (record { 0 = 5 }); jitter = 0; rows = replicate 16 freeRow }
+-- a table whose channel 0 is in phase 5, with device 4, callback 5, NoAck 0 and these rows; other channels new
+abbrev pub tableOf : ℕ → List Row → Table
+tableOf next rows =
+    record { next = next; channels = record { phase = 5; device = known.Is (record { 0 = 4 }); callback = known.Is (record { 0 = 5 }); jitter = 0; rows = rows } ∷ replicate 7 newChannel }
 
+abbrev pub none : List Row
+none = replicate 16 freeRow
+
+-- the rows with C1's request in row 0
+abbrev pub open7 : List Row
+open7 = record { sort = In (record { request = record { 0 = 7 }; number = 10; size = 64 }) } ∷ replicate 15 freeRow
+
+-- ready: no rows, next 10
 abbrev pub ready : Table
-ready = record { next = 10; channels = readyChannel ∷ replicate 7 newChannel }
-
--- bytes that differ from each other
-abbrev pub ramp : ℕ → ℕ → List ℕ
-ramp n zero = []
-ramp n (suc k) = n ∷ ramp (n + 1) k
+ready = tableOf 10 none
 
 abbrev pub transferIn : List ℕ
 transferIn =
@@ -86,43 +90,59 @@ c1 = server 100 transferIn
 abbrev pub c2 : Call
 c2 = client 90 (completion 2 (0xAA ∷ 0xBB ∷ []))
 
--- the rows with C1's request in row 0
-abbrev pub open7 : List Row
-open7 = record { sort = In (record { request = record { 0 = 7 }; number = 10; size = 64 }) } ∷ replicate 15 freeRow
-
-abbrev pub none : List Row
-none = replicate 16 freeRow
-
 -- an entry by its nine fields in 01's order
 abbrev pub says : ℕ → ℕ → ℕ → ℕ → ℕ → ℕ → ℕ → ℕ → ℕ → Noted
 says number channel side kind answer request cause size stamp =
     Is (record { number = number; channel = channel; side = side; kind = kind; answer = answer; request = request; cause = cause; size = size; stamp = stamp })
 
+abbrev pub case1 : Case
+case1 = record { start = ready; before = []; call = c1; shows = record { size = 36; answer = 0; entry = says 10 0 1 10 0 7 0 64 100; payload = []; start = 0; table = tableOf 11 open7 } }
+
+abbrev pub case2 : Case
+case2 = record { start = ready; before = c1 ∷ []; call = c2; shows = record { size = 38; answer = 0; entry = says 11 0 2 16 0 7 10 2 90; payload = 0xAA ∷ 0xBB ∷ []; start = 36; table = tableOf 12 none } }
+
+-- C2 again
+abbrev pub case3 : Case
+case3 = record { start = ready; before = c1 ∷ c2 ∷ []; call = c2; shows = record { size = 38; answer = 11; entry = says 12 0 2 16 11 0 0 0 90; payload = []; start = 0; table = tableOf 13 none } }
+
+-- C1 twice
+abbrev pub case4 : Case
+case4 = record { start = ready; before = c1 ∷ []; call = c1; shows = record { size = 36; answer = 9; entry = says 11 0 1 10 9 0 0 0 100; payload = []; start = 0; table = tableOf 12 open7 } }
+
+-- 64 bytes of data
+abbrev pub case5 : Case
+case5 = record { start = ready; before = c1 ∷ []; call = client 90 (completion 64 (upFrom 1 64)); shows = record { size = 100; answer = 0; entry = says 11 0 2 16 0 7 10 64 90; payload = upFrom 1 64; start = 36; table = tableOf 12 none } }
+
+-- 65, and the row is kept
+abbrev pub case6 : Case
+case6 = record { start = ready; before = c1 ∷ []; call = client 90 (completion 65 (upFrom 1 65)); shows = record { size = 101; answer = 13; entry = says 11 0 2 16 13 0 0 0 90; payload = []; start = 0; table = tableOf 12 open7 } }
+
+-- C1 with a byte more
+abbrev pub case7 : Case
+case7 = record { start = ready; before = []; call = server 100 (transferIn ++ (0x00 ∷ [])); shows = record { size = 37; answer = 7; entry = says 10 0 1 10 7 0 0 0 100; payload = []; start = 0; table = tableOf 11 none } }
+
+-- the RequestId's word 07000080
+abbrev pub case8 : Case
+case8 = record { start = ready; before = []; call = server 100 transferInNoAck; shows = record { size = 36; answer = 8; entry = says 10 0 1 10 8 0 0 0 100; payload = []; start = 0; table = tableOf 11 none } }
+
+-- 11 bytes
+abbrev pub case9 : Case
+case9 = record { start = ready; before = []; call = server 100 (take 11 transferIn); shows = record { size = 11; answer = 3; entry = says 10 0 1 0 3 0 0 0 100; payload = []; start = 0; table = tableOf 11 none } }
+
+-- channel 8
+abbrev pub case10 : Case
+case10 = record { start = ready; before = []; call = record { channel = 8; asks = judging 1 100 transferIn }; shows = record { size = 36; answer = 2; entry = says 10 8 1 0 2 0 0 0 100; payload = []; start = 0; table = tableOf 11 none } }
+
+-- opened at 4,294,967,294, a close, and another, which leaves the table as it is
+abbrev pub case11 : Case
+case11 = record { start = openOf 4294967294; before = []; call = close 100; shows = record { size = 0; answer = 0; entry = says 4294967294 0 3 18 0 0 0 0 100; payload = []; start = 0; table = openOf 4294967295 } }
+
+abbrev pub case11again : Case
+case11again = record { start = openOf 4294967294; before = close 100 ∷ []; call = close 100; shows = record { size = 0; answer = 1; entry = Nothing; payload = []; start = 0; table = openOf 4294967295 } }
+
+-- a cancel of 9, which is not open
+abbrev pub case12 : Case
+case12 = record { start = ready; before = []; call = server 100 cancelOf9; shows = record { size = 16; answer = 0; entry = says 10 0 1 13 0 9 0 0 100; payload = []; start = 0; table = tableOf 11 none } }
+
 unfoldable pub cases : List Case
-cases =
-    -- C1
-    record { start = ready; before = []; call = c1; shows = record { answer = 0; entry = says 10 0 1 10 0 7 0 64 100; payload = []; rows = open7 } } ∷
-    -- C2
-    record { start = ready; before = c1 ∷ []; call = c2; shows = record { answer = 0; entry = says 11 0 2 16 0 7 10 2 90; payload = 0xAA ∷ 0xBB ∷ []; rows = none } } ∷
-    -- C3: C2 again
-    record { start = ready; before = c1 ∷ c2 ∷ []; call = c2; shows = record { answer = 11; entry = says 12 0 2 16 11 0 0 0 90; payload = []; rows = none } } ∷
-    -- C4: C1 twice
-    record { start = ready; before = c1 ∷ []; call = c1; shows = record { answer = 9; entry = says 11 0 1 10 9 0 0 0 100; payload = []; rows = open7 } } ∷
-    -- C5: 64 bytes of data
-    record { start = ready; before = c1 ∷ []; call = client 90 (completion 64 (ramp 1 64)); shows = record { answer = 0; entry = says 11 0 2 16 0 7 10 64 90; payload = ramp 1 64; rows = none } } ∷
-    -- C6: 65, and the row is kept
-    record { start = ready; before = c1 ∷ []; call = client 90 (completion 65 (ramp 1 65)); shows = record { answer = 13; entry = says 11 0 2 16 13 0 0 0 90; payload = []; rows = open7 } } ∷
-    -- C7: C1 with a byte more
-    record { start = ready; before = []; call = server 100 (transferIn ++ (0x00 ∷ [])); shows = record { answer = 7; entry = says 10 0 1 10 7 0 0 0 100; payload = []; rows = none } } ∷
-    -- C8: the RequestId's word 07000080
-    record { start = ready; before = []; call = server 100 transferInNoAck; shows = record { answer = 8; entry = says 10 0 1 10 8 0 0 0 100; payload = []; rows = none } } ∷
-    -- C9: 11 bytes
-    record { start = ready; before = []; call = server 100 (take 11 transferIn); shows = record { answer = 3; entry = says 10 0 1 0 3 0 0 0 100; payload = []; rows = none } } ∷
-    -- C10: channel 8
-    record { start = ready; before = []; call = record { channel = 8; asks = judging 1 100 transferIn }; shows = record { answer = 2; entry = says 10 8 1 0 2 0 0 0 100; payload = []; rows = none } } ∷
-    -- C11: opened at 4,294,967,294, a close, and another
-    record { start = openOf 4294967294; before = []; call = close 100; shows = record { answer = 0; entry = says 4294967294 0 3 18 0 0 0 0 100; payload = []; rows = none } } ∷
-    record { start = openOf 4294967294; before = close 100 ∷ []; call = close 100; shows = record { answer = 1; entry = Nothing; payload = []; rows = none } } ∷
-    -- C12: a cancel of 9, which is not open
-    record { start = ready; before = []; call = server 100 cancelOf9; shows = record { answer = 0; entry = says 10 0 1 13 0 9 0 0 100; payload = []; rows = none } } ∷
-    []
+cases = case1 ∷ case2 ∷ case3 ∷ case4 ∷ case5 ∷ case6 ∷ case7 ∷ case8 ∷ case9 ∷ case10 ∷ case11 ∷ case11again ∷ case12 ∷ []

@@ -1,8 +1,8 @@
 pub mod Demand1
 pub mod Stamp
 pub mod Sound
-pub mod Cases
-pub mod Gate
-pub mod Runs
-pub mod Demand3
 pub mod Names
+pub mod Demand3
+pub mod Cases
+pub mod FourPrograms
+pub mod Gate

@@ -4,6 +4,7 @@ use crate::admit::Admitted;
 use crate::store;
 use channel::channel::Channel;
 use rules::decide;
+use rules::verdict::Act;
 use rules::verdict::Verdict;
 ghost use mathlib.Core.Path.{_≡_};
 ghost use Rattle.turn.specs.Step.{afterOf, verdictOf};
@@ -28,7 +29,7 @@ pub fn after(c: Channel, verdict: Verdict) -> Channel
     ensures { λ r. ⌜ r ≡ afterOf c verdict ⌝ }
 {
     match verdict {
-        Verdict::Refused(_, _) => c,
+        Verdict::Refused(_, _) => store::act_on(c, Act::Keep),
         Verdict::Accepted(a) => {
             let act = a.act;
             store::keep(c, a.phase, act)

@@ -46,7 +46,8 @@ pub(crate) fn see(c: Channel, asked: Asked) -> Seen
     }
 }
 
-fn act_on(c: Channel, act: Act) -> Channel
+// What a message's verdict has done to its channel, but for the phase.
+pub(crate) fn act_on(c: Channel, act: Act) -> Channel
     ensures { λ r. ⌜ r ≡ done c act ⌝ }
 {
     match act {

@@ -44,11 +44,11 @@ pub(crate) fn read(m: &[u8]) -> IoControlRead
     if rest(m, 16) < 4 {
         return IoControlRead::Fails(Fault::RanOut(16));
     }
-    let size = u32_at(m, 16) as usize;
-    if rest(m, 20) < size {
+    let size = u32_at(m, 16);
+    if rest(m, 20) < size as usize {
         return IoControlRead::Fails(Fault::RanOut(20));
     }
-    let e = 20 + size;
+    let e = 20 + size as usize;
     if rest(m, e) < 4 {
         return IoControlRead::Fails(Fault::RanOut(e));
     }
@@ -62,7 +62,7 @@ pub(crate) fn read(m: &[u8]) -> IoControlRead
         code: u32_at(m, 12),
         input: Part {
             start: 20,
-            size: size,
+            size: size as usize,
         },
         size: u32_at(m, e),
         request: RequestId::read(m, e + 4),

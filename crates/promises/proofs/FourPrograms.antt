@@ -1,0 +1,32 @@
+-- 01's four wrong programs are shut out, each by the case that 01 names for it: the contract asks for another answer there, whatever a proof's shape.
+use native.Mathlib.Omega.{arith}
+use mathlib.Core.Path.{_≡_, refl, sym, _∙_}
+use Rattle.header.specs.Header.{headerOf}
+use Rattle.wire.specs.Message.{askedOf}
+use Rattle.wire.specs.Reading.{readingOf}
+use Rattle.urb.specs.TsUrb.{oneSizeOf, structureOf, tsUrbOf}
+use Rattle.wire.specs.Transfer.{outputOf, transferOf, transferWith}
+use Rattle.wire.specs.TransferInRequest.{transferInRequestAllowed, transferInRequestOf}
+use Rattle.wire.specs.TsUrbResult.{completedOf, completionOf, completionWith}
+use Rattle.wire.specs.UrbCompletion.{urbCompletionOf, withOutputOf}
+use Rattle.wire.specs.CancelRequest.{cancelRequestOf}
+use Rattle.rows.specs.Search.{firstFrom, openCount}
+use Rattle.requests.specs.Held.{heldOf}
+use Rattle.rules.specs.Request.{opened, taken}
+use Rattle.rules.specs.Decide.{decided}
+use Rattle.turn.specs.Admit.{admitted, asksIn, fromHeader}
+use Rattle.turn.specs.Step.{afterOf, verdictOf}
+use Rattle.turn.specs.Store.{hereOf, stored}
+use Rattle.table.specs.Entry.{answerOf, judgedEntry}
+use Rattle.payloads.specs.Payload.{cutOf, payloadOf, shownOf, startIn, startOf}
+use Rattle.table.specs.Table.{closeOf, judgeOf}
+use Rattle.promises.specs.FourPrograms.{ShutOut}
+
+pub shut-out : ShutOut
+unfolding judgeOf closeOf payloadOf startOf shownOf cutOf startIn answerOf judgedEntry afterOf verdictOf hereOf stored admitted asksIn fromHeader decided opened taken firstFrom heldOf openCount headerOf askedOf transferInRequestOf transferInRequestAllowed transferOf transferWith outputOf tsUrbOf structureOf oneSizeOf urbCompletionOf withOutputOf completionOf completionWith completedOf cancelRequestOf readingOf
+shut-out = record {
+  refuses = λ a n e. n e;
+  accepts = λ e. let q = e in absurd (omega arith);
+  untouched = λ e. let q = e in absurd (omega arith);
+  repeats = λ e. let q = e in absurd (omega arith);
+}
