@@ -1,13 +1,15 @@
 // A session in which one channel's rows fill up: 16 requests are open, a seventeenth is refused with 10, and after request 3 completes the next one
-// takes row 3 (01 "Shown of the rules themselves").
+// takes row 3 (01 "Shown of the rules themselves"). And one that comes to its limits: a message of 65,535 bytes, one of 65,536, which is refused with 4, and then a call for which no number is left, which
+// gets 1; so does a call on a table opened at 0. No capture can ask for a 4 or, at its length, for a 1.
 //
-// A line a call: its answer, and then the 16 rows, each by the RequestId that it holds, or by a dash where it is free.
+// A line a call: its answer, the next number after it, and then the 16 rows, each by the RequestId that it holds, or by a dash where it is free.
 use answers::answer;
 use channel::channel::Channel;
 use channel::row::Open;
 use channel::row::Row;
 use channel::row::Sort;
 use table::table::Table;
+ghost use Prim.Native.Nat.{_≤_};
 
 mod messages;
 
@@ -22,6 +24,32 @@ fn main() {
     let refused = request(full, 16);
     let done = complete(refused, 3);
     request(done, 16);
+    limits();
+}
+
+// From this number on a session takes six, and the two long messages the last two.
+fn limits() {
+    let late = table::table::open(4294967287);
+    let ready = session(late);
+    let longest = long(ready, 0xE3, 65535);
+    let refused = long(longest, 0xE4, 65536);
+    request(refused, 1);
+    let never = table::table::open(0);
+    call(never, SERVER, &messages::CAPABILITY_REQUEST);
+}
+
+// An IO control of so many bytes, of which 28 are not input; the second byte of its InputBufferSize is 0xFF, and this is the first.
+fn long(t: Table, input: u8, size: usize) -> Table
+    requires { ⌜ size ≤ 65536 ⌝ }
+{
+    let mut m = messages::zeros();
+    m[0] = 0x04;
+    m[3] = 0x40;
+    m[8] = 0x02;
+    m[9] = 0x01;
+    m[16] = input;
+    m[17] = 0xFF;
+    call(t, SERVER, &m[0..size])
 }
 
 // From phase 0 to a device with a callback.
@@ -63,6 +91,8 @@ fn call(t: Table, side: u8, m: &[u8]) -> Table {
     let a = j.answer;
     let after = j.table;
     io::print_decimal(1, answer::number(a) as u64);
+    io::write_all(1, b" ");
+    io::print_decimal(1, after.next as u64);
     let c = after.channels[0];
     rows(c);
     io::write_all(1, b"\n");

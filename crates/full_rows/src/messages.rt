@@ -1,4 +1,6 @@
 // The messages of the session, byte by byte as 000 lays them out.
+ghost use mathlib.Core.Path.{_≡_};
+ghost use lib.ListN.{length};
 
 // Kind 1 (000 2.2.3.1).
 pub(crate) const CAPABILITY_REQUEST: [u8; 16] =
@@ -31,3 +33,10 @@ pub(crate) const IO_CONTROL: [u8; 28] =
 // Kind 15 (000 2.2.7.1): success, no output. Its RequestId starts at byte 12.
 pub(crate) const IO_CONTROL_COMPLETION: [u8; 28] =
     *b"\x05\x00\x00\x40\x01\x00\x00\x00\x00\x01\x00\x00\x00\x00\x00\x00\x00\x00\x00\x00\x00\x00\x00\x00\x00\x00\x00\x00";
+
+// Room for a message that is a byte too long.
+pub(crate) fn zeros() -> [u8; 65536]
+    ensures { λ r. ⌜ 65536 ≡ length r ⌝ }
+{
+    [0; 65536]
+}

@@ -3,7 +3,6 @@ use Rattle.payloads.specs.Payload.{cutOf, startIn}
 use native.Mathlib.Nat.{add-sub-cancel-left}
 use mathlib.Core.Path.{refl}
 use borrow.Author.Needs.{needs}
-use Rattle.words.proofs.Tests.{tests}
 use borrow.Author.Tests.{le-ltb, lt-ltb}
 use Rattle.payloads.proofs.payload.cut.Statement.{statement}
 use Rattle.payloads.proofs.payload.cut.Tie as tie
@@ -21,7 +20,7 @@ cut-spec =
     (search needs)
     (search needs)
     (search needs)
-    (λ c. search tests)
+    (λ c. rw (le-ltb _ _ (c .before .before .before .before .if1 .left), lt-ltb _ _ (c .before .if2 .taken)) (refl, refl))
     (search needs)
     (search needs)
     (search needs)

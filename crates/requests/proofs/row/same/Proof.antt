@@ -9,4 +9,4 @@ same-spec =
     (tie.spec
     (search needs)
     (search needs)
-    (λ c. cc))
+    (λ c. rw (c .before .number .ensures, c .number2 .ensures)))

@@ -1,7 +1,6 @@
 -- `rules::completion::urb_close` meets its contract.
 use borrow.Author.Needs.{needs}
-use borrow.Author.Tests.{le-ltb}
-use Rattle.words.proofs.Tests.{tests}
+use borrow.Author.Tests.{le-ltb, lt-ltb}
 use Rattle.rules.proofs.completion.urb_close.Statement.{statement}
 use Rattle.rules.proofs.completion.urb_close.Tie as tie
 
@@ -10,6 +9,6 @@ urb-close-spec =
     tie.close
     (tie.spec
     (search needs)
-    (λ c. search (tests, c .refuse .ensures))
+    (λ c. let a = c .before .before .before .args in rw (lt-ltb (a .most) (a .c .size) (c .before .if1 .taken)) (c .refuse .ensures))
     (search needs)
     (λ c. rw (le-ltb _ _ (c .before .before .before .if1 .left)) (c .close .ensures)))

@@ -1,5 +1,5 @@
--- `texts::text::allowed` meets its contract: at each `return` the tests and calls before it say which case of the definition holds.
-use Rattle.words.proofs.Tests.{tests}
+-- `texts::text::allowed` meets its contract: the test is the definition's, of 512 units.
+use borrow.Author.Tests.{le-leb, lt-leb}
 use Rattle.texts.proofs.text.allowed.Statement.{statement}
 use Rattle.texts.proofs.text.allowed.Tie as tie
 
@@ -7,5 +7,5 @@ pub allowed-spec : {M : Type 1} → statement M
 allowed-spec =
     tie.close
     (tie.spec
-    (λ c. search tests)
-    (λ c. search tests))
+    (λ c. rw (lt-leb _ 512 (c .if1 .taken)))
+    (λ c. rw (le-leb _ 512 (c .before .if1 .left))))

@@ -1,8 +1,8 @@
 -- `texts::text::read` meets its contract: its tests are those of `textOf`.
+use Prim.Native.Nat.{_*_}
 use borrow.Author.Needs.{needs}
 use Rattle.texts.specs.Text.{textOf, unitsOf}
 use borrow.Author.Tests.{le-ltb, lt-ltb}
-use Rattle.words.proofs.Tests.{tests}
 use Rattle.texts.proofs.text.read.Statement.{statement}
 use Rattle.texts.proofs.text.read.Tie as tie
 
@@ -18,7 +18,7 @@ read-spec =
     (search needs)
     (search needs)
     (search needs)
-    (λ c. search (tests, ← (c .before .before .before .before .rest .ensures), ← (c .before .before .u32-at .ensures), ← (c .before .rest2 .ensures)))
+    (λ c. rw (← (c .before .before .before .before .rest .ensures), le-ltb _ 4 (c .before .before .before .if1 .left), ← (c .before .before .u32-at .ensures), ← (c .before .rest2 .ensures), lt-ltb _ (2 * c .before .before .u32-at .result) (c .if2 .taken)))
     (search needs)
     (search needs)
     (search needs)

@@ -1,7 +1,7 @@
 -- `turn::admit::in_phase` meets its contract.
 use Rattle.turn.specs.Admit.{asksIn}
 use borrow.Author.Needs.{needs}
-use Rattle.words.proofs.Tests.{tests}
+use borrow.Author.Tests.{eq-eqb, ne-eqb}
 use Rattle.turn.proofs.admit.in_phase.Statement.{statement}
 use Rattle.turn.proofs.admit.in_phase.Tie as tie
 
@@ -12,6 +12,6 @@ in-phase-spec =
     (tie.spec
     (search needs)
     (search needs)
-    (λ c. search (tests, ← (c .before .before .before .of .ensures), c .number .ensures))
+    (λ c. let p = c .before .before .before .of in rw (← (p .ensures), ne-eqb (p .result .before) (c .before .before .before .before .before .args .phase) (c .before .if1 .taken), c .number .ensures))
     (search needs)
-    (λ c. search (tests, ← (c .before .before .before .of .ensures), c .ask .ensures)))
+    (λ c. let p = c .before .before .before .of in rw (← (p .ensures), eq-eqb (p .result .before) (c .before .before .before .before .before .args .phase) (c .before .if1 .left), c .ask .ensures)))

@@ -1,8 +1,7 @@
 -- `turn::admit::with_header` meets its contract.
 use Rattle.turn.specs.Admit.{fromHeader}
 use borrow.Author.Needs.{needs}
-use borrow.Author.Tests.{le-ltb}
-use Rattle.words.proofs.Tests.{tests}
+use borrow.Author.Tests.{le-ltb, lt-ltb}
 use Rattle.turn.proofs.admit.with_header.Statement.{statement}
 use Rattle.turn.proofs.admit.with_header.Tie as tie
 
@@ -11,7 +10,7 @@ unfolding fromHeader
 with-header-spec =
     tie.close
     (tie.spec
-    (λ c. search tests)
+    (λ c. rw (lt-ltb 65535 _ (c .if1 .taken)))
     (search needs)
     (search needs)
     (search needs)

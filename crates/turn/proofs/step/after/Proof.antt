@@ -12,5 +12,6 @@ after-spec =
     (search needs)
     (search needs)
     (search needs)
-    (λ c. rw (c .enum-told .given .1))
+    (search needs)
+    (λ c. rw (c .before .enum-told .given .1) (c .act-on .ensures))
     (λ c. rw (c .before .before .verdict .given .1) (c .keep .ensures)))
