@@ -1,32 +1,42 @@
--- 01's four wrong programs are shut out, each by the case that 01 names for it: the contract asks for another answer there, whatever a proof's shape.
+-- 01's four wrong programs are shut out, each by the case that 01 names for it: the contracts ask for another answer there, whatever a proof's shape.
+use Prim.Native.Nat.{ℕ}
 use native.Mathlib.Omega.{arith}
-use mathlib.Core.Path.{_≡_, refl, sym, _∙_}
-use Rattle.header.specs.Header.{headerOf}
-use Rattle.wire.specs.Message.{askedOf}
-use Rattle.wire.specs.Reading.{readingOf}
-use Rattle.urb.specs.TsUrb.{oneSizeOf, structureOf, tsUrbOf}
-use Rattle.wire.specs.Transfer.{outputOf, transferOf, transferWith}
-use Rattle.wire.specs.TransferInRequest.{transferInRequestAllowed, transferInRequestOf}
-use Rattle.wire.specs.TsUrbResult.{completedOf, completionOf, completionWith}
-use Rattle.wire.specs.UrbCompletion.{urbCompletionOf, withOutputOf}
-use Rattle.wire.specs.CancelRequest.{cancelRequestOf}
-use Rattle.rows.specs.Search.{firstFrom, openCount}
-use Rattle.requests.specs.Held.{heldOf}
-use Rattle.rules.specs.Request.{opened, taken}
-use Rattle.rules.specs.Decide.{decided}
-use Rattle.turn.specs.Admit.{admitted, asksIn, fromHeader}
-use Rattle.turn.specs.Step.{afterOf, verdictOf}
-use Rattle.turn.specs.Store.{hereOf, stored}
-use Rattle.table.specs.Entry.{answerOf, judgedEntry}
-use Rattle.payloads.specs.Payload.{cutOf, payloadOf, shownOf, startIn, startOf}
-use Rattle.table.specs.Table.{closeOf, judgeOf}
-use Rattle.promises.specs.FourPrograms.{ShutOut}
+use mathlib.Core.Path.{_≡_, ap, _∙_}
+use mathlib.Core.List.{List}
+use lib.ListN.{getD}
+use Rattle.answers.specs.Answer.{answerNumber}
+use Rattle.table.specs.declared.table.Judged.{Judged}
+use Rattle.promises.specs.Cases.{Case, case1, case3, case4, cases, Shown}
+use Rattle.promises.specs.FourPrograms.{Meets, OtherAnswerIn, Program, right, ShutOut}
+use Rattle.promises.proofs.Cases.{cases-hold}
+
+abbrev answerIn : Case → ℕ
+answerIn k = answerNumber (right (k .start) (k .before) (k .call) .answer)
+
+-- the answer of the i-th case
+abbrev at : ℕ → List Shown → ℕ
+at i l = getD l i (case1 .shows) .answer
+
+answer-1 : answerIn case1 ≡ 0
+unfolding cases
+answer-1 = ap (at 0) cases-hold
+
+answer-3 : answerIn case3 ≡ 11
+unfolding cases
+answer-3 = ap (at 2) cases-hold
+
+answer-4 : answerIn case4 ≡ 9
+unfolding cases
+answer-4 = ap (at 3) cases-hold
 
 pub shut-out : ShutOut
-unfolding judgeOf closeOf payloadOf startOf shownOf cutOf startIn answerOf judgedEntry afterOf verdictOf hereOf stored admitted asksIn fromHeader decided opened taken firstFrom heldOf openCount headerOf askedOf transferInRequestOf transferInRequestAllowed transferOf transferWith outputOf tsUrbOf structureOf oneSizeOf urbCompletionOf withOutputOf completionOf completionWith completedOf cancelRequestOf readingOf
 shut-out = record {
-  refuses = λ a n e. n e;
-  accepts = λ e. let q = e in absurd (omega arith);
-  untouched = λ e. let q = e in absurd (omega arith);
-  repeats = λ e. let q = e in absurd (omega arith);
+  refuses = λ a n e. n (e ∙ answer-1);
+  accepts = λ e. let q = e in absurd (omega (arith, answer-3));
+  untouched = λ e. let q = e in absurd (omega (arith, answer-1, answer-4));
+  repeats = λ e. let q = e in absurd (omega (arith, answer-1, answer-3));
 }
+
+-- And a program that gives another answer in some case does not meet the contracts.
+pub not-met : (k : Case) (p : Program) → OtherAnswerIn k p → Meets p → ⊥
+not-met k p other m = other (ap (λ (j : Judged). answerNumber (j .answer)) (m (k .start) (k .before) (k .call)))

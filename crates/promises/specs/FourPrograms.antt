@@ -1,5 +1,5 @@
 -- 01 "How much a contract has to say": four programs that have to be shut out, as what each gives for a call.
-use Prim.Native.Nat.{ℕ}
+use mathlib.Core.Path.{_≡_}
 use mathlib.Core.List.{List, [], _∷_}
 use mathlib.Core.Logic.{_≢_}
 use Rattle.answers.specs.Answer.{answerNumber}
@@ -54,7 +54,11 @@ abbrev pub repeatsFirstAnswer : Program
 repeatsFirstAnswer t [] x = called t x
 repeatsFirstAnswer t (y ∷ ys) x = answered (called t y .answer) (called (after t (y ∷ ys)) x)
 
--- in a case a program gives another answer than the right one
+-- it meets the contracts of the calls
+abbrev pub Meets : Program → Type 0
+Meets p = (t : Table) (before : List Call) (x : Call) → p t before x ≡ right t before x
+
+-- in a case it gives another answer than the right one
 abbrev pub OtherAnswerIn : Case → Program → Type 0
 OtherAnswerIn k p = answerNumber (p (k .start) (k .before) (k .call) .answer) ≢ answerNumber (right (k .start) (k .before) (k .call) .answer)
 
