@@ -1,12 +1,16 @@
 -- `urb::ts_urb::read` meets its contract: its Size, and what its structure reads as, in each arm.
 use borrow.Author.Needs.{needs}
 use mathlib.Core.Path.{_≡_, ap, _∙_}
-use borrow.Author.Tests.{eq-eqb}
+use borrow.Author.Tests.{eq-eqb, ne-eqb}
 use Rattle.urb.specs.TsUrb.{structureOf, tsUrbOf}
 use Rattle.words.specs.Words.{halfAt}
-use Rattle.words.proofs.Tests.{tests}
+use Rattle.words.specs.Layout.{left}
 use Rattle.urb.proofs.ts_urb.read.Statement.{statement}
 use Rattle.urb.proofs.ts_urb.read.Tie as tie
+
+-- Size is held against all bytes from it on
+sized : (c : tie.After-rest) → c .rest .result ≡ left (c .before .before .before .args .u .now) 16
+sized c = c .rest .ensures
 
 -- the structure that was read is that of the function behind Size
 told : (c : tie.After-structure) → c .structure .result ≡ structureOf (c .before .before .before .before .before .before .args .u .now) (halfAt (c .before .before .before .before .before .before .args .u .now) 18)
@@ -20,7 +24,7 @@ read-spec =
     (search needs)
     (search needs)
     (search needs)
-    (λ c. search (tests, ← (c .before .before .u16-at .ensures), ← (c .before .rest .ensures)))
+    (λ c. rw (← (c .before .before .u16-at .ensures), ← (sized (c .before)), ne-eqb _ _ (c .if1 .taken)))
     (search needs)
     (search needs)
     (search needs)
