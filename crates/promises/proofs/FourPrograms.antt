@@ -2,12 +2,13 @@
 use Prim.Native.Nat.{ℕ}
 use native.Mathlib.Omega.{arith}
 use mathlib.Core.Path.{_≡_, ap, _∙_}
+use mathlib.Core.Logic.{_≢_}
 use mathlib.Core.List.{List}
 use lib.ListN.{getD}
 use Rattle.answers.specs.Answer.{answerNumber}
 use Rattle.table.specs.declared.table.Judged.{Judged}
 use Rattle.promises.specs.Cases.{Case, case1, case3, case4, cases, Shown}
-use Rattle.promises.specs.FourPrograms.{Meets, OtherAnswerIn, Program, right, ShutOut}
+use Rattle.promises.specs.FourPrograms.{OtherAnswerIn, Program, right, ShutOut}
 use Rattle.promises.proofs.Cases.{cases-hold}
 
 abbrev answerIn : Case → ℕ
@@ -37,6 +38,6 @@ shut-out = record {
   repeats = λ e. let q = e in absurd (omega (arith, answer-1, answer-3));
 }
 
--- And a program that gives another answer in some case does not meet the contracts.
-pub not-met : (k : Case) (p : Program) → OtherAnswerIn k p → Meets p → ⊥
-not-met k p other m = other (ap (λ (j : Judged). answerNumber (j .answer)) (m (k .start) (k .before) (k .call)))
+-- And where a program gives another answer, it does not give what the contracts ask for.
+pub not-met : (k : Case) (p : Program) → OtherAnswerIn k p → p (k .start) (k .before) (k .call) ≢ right (k .start) (k .before) (k .call)
+not-met k p other m = other (ap (λ (j : Judged). answerNumber (j .answer)) m)

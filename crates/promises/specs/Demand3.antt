@@ -62,7 +62,7 @@ abbrev pub entriesOf : List Done → List Entry
 entriesOf [] = []
 entriesOf (x ∷ xs) = withEntry (x .entry) (entriesOf xs)
 
--- the entry of the j-th call of channel d in a run from a table opened at k, counted from 0; past the last one an entry of zeros
+-- the j-th entry of channel d in a run from a table opened at k, counted from 0, which is that of its j-th call where no number is lacking; past the last one an entry of zeros
 abbrev pub noEntry : Entry
 noEntry = record { number = 0; channel = 0; side = 0; kind = 0; answer = 0; request = 0; cause = 0; size = 0; stamp = 0 }
 

@@ -1,5 +1,4 @@
 -- 01 "How much a contract has to say": four programs that have to be shut out, as what each gives for a call.
-use mathlib.Core.Path.{_≡_}
 use mathlib.Core.List.{List, [], _∷_}
 use mathlib.Core.Logic.{_≢_}
 use Rattle.answers.specs.Answer.{answerNumber}
@@ -36,7 +35,7 @@ answeredIn a (Is e) =
 abbrev pub answered : Answer → Judged → Judged
 answered a j = record { answer = a; entry = answeredIn a (j .entry); table = j .table }
 
--- it refuses everything, with an answer a, and uses a number for each
+-- it refuses everything, with one answer, and uses a number for each
 abbrev pub refusesEverything : Answer → Program
 refusesEverything a =
     fromTable (λ t x. record { answer = a; entry = Is (refusedEntry (t .next) (x .channel) (sideBy (x .asks)) (stampBy (x .asks)) 0 a); table = numbered t })
@@ -53,10 +52,6 @@ tableUntouched = fromTable (λ t x. record { answer = called t x .answer; entry 
 abbrev pub repeatsFirstAnswer : Program
 repeatsFirstAnswer t [] x = called t x
 repeatsFirstAnswer t (y ∷ ys) x = answered (called t y .answer) (called (after t (y ∷ ys)) x)
-
--- it meets the contracts of the calls
-abbrev pub Meets : Program → Type 0
-Meets p = (t : Table) (before : List Call) (x : Call) → p t before x ≡ right t before x
 
 -- in a case it gives another answer than the right one
 abbrev pub OtherAnswerIn : Case → Program → Type 0

@@ -38,7 +38,7 @@ pub record Named (earlier : List Entry) (e : Entry) : Type 0 where
   pub channel : request .channel ≡ e .channel
   pub id : request .request ≡ e .request
   pub kind : mayClose (e .kind) (request .kind) ≡ true
-  -- and it is one: no other has that number
+  -- and it is one: no other earlier entry has that number
   pub only : (q : Entry) → Among q earlier → q .number ≡ e .cause → q ≡ request
 
 pub record Names (earlier : List Entry) (e : Entry) : Type 0 where

@@ -45,10 +45,10 @@ pub(crate) fn read(m: &[u8]) -> IoControlRead
         return IoControlRead::Fails(Fault::RanOut(16));
     }
     let size = u32_at(m, 16);
+    let e = 20 + size as usize;
     if rest(m, 20) < size as usize {
         return IoControlRead::Fails(Fault::RanOut(20));
     }
-    let e = 20 + size as usize;
     if rest(m, e) < 4 {
         return IoControlRead::Fails(Fault::RanOut(e));
     }
