@@ -1,3 +1,4 @@
 pub mod Words
+pub mod Written
 pub mod Layout
 pub mod Hresult
