@@ -55,6 +55,12 @@ impl MessageId {
     {
         MessageId(u32_at(m, at))
     }
+
+    pub fn number(self) -> u32
+        ensures { λ r. ⌜ r ≡ self .0 ⌝ }
+    {
+        self.0
+    }
 }
 
 impl RequestId {

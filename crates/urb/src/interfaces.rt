@@ -81,7 +81,7 @@ fn length_agrees(told: u32, pipes: u32) -> bool
 
 // `count` interfaces from `at` on. A message may announce any count, and a frame for each of them is more stack than it may take (docs/DECISIONS.md, 13). So
 // the two readers below walk as many at a time as a list may have (01 "Bodies after the 12 bytes"): what is behind those only decides between 7 and 8.
-pub(crate) fn list(s: &[u8], at: usize, count: u32) -> Walk
+pub fn list(s: &[u8], at: usize, count: u32) -> Walk
     ensures { λ r. ⌜ r ≡ interfacesOf (now (s .entry)) count 0 at ⌝ }
 {
     let mut start = at;

@@ -1,0 +1,16 @@
+pub mod SharedMsgHeader
+pub mod Part
+pub mod CapabilityRequest
+pub mod CapabilityResponse
+pub mod ChannelCreated
+pub mod AddVirtualChannel
+pub mod AddDevice
+pub mod RegisterRequestCallback
+pub mod IoControl
+pub mod TsUrb
+pub mod Transfer
+pub mod CancelRequest
+pub mod RetractDevice
+pub mod IoControlCompletion
+pub mod UrbCompletion
+pub mod Message
