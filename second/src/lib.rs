@@ -11,15 +11,19 @@
 
 pub mod aims;
 pub mod body;
+pub mod calls;
 pub mod capture;
+pub mod chosen;
 pub mod compose;
 pub mod damage;
 pub mod journal;
 pub mod kinds;
 pub mod maker;
 pub mod proper;
+pub mod rebuild;
 pub mod rng;
 pub mod table;
 pub mod tally;
 pub mod urb;
 pub mod wire;
+pub mod writer;

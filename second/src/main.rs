@@ -1,7 +1,7 @@
 use std::io::{self, Read, Write};
 use std::process::ExitCode;
 
-use second::{capture, maker, tally};
+use second::{calls, capture, chosen, maker, rebuild, tally};
 
 const USAGE: &str = "\
 second list [--first N]    the listing of a capture
@@ -43,6 +43,13 @@ fn run(arguments: &[&str]) -> Result<Vec<u8>, Failure> {
         }
         ["payloads"] => Ok(capture::payloads(&input()?).into_bytes()),
         ["make", seed, calls] => Ok(maker::make(number(seed)?, number(calls)?)),
+        ["rebuild"] => rebuild::rebuild(&input()?)
+            .map_err(|record| Failure::Text(format!("record {record} cannot be made anew"))),
+        ["calls"] => Ok(calls::file(&chosen::calls())),
+        ["write"] => {
+            let calls = calls::read(&input()?).map_err(Failure::Text)?;
+            Ok(calls::print(&calls).into_bytes())
+        }
         ["tally"] => Ok(tally::Tally::of(&input()?).print().into_bytes()),
         ["record", wanted] => {
             let wanted = number(wanted)?;
