@@ -301,9 +301,7 @@ impl<'m> Body<'m> {
             Body::AddDevice(device) => device.values_hold(),
             Body::RegisterCallback { callback, .. } => callback.is_none_or(given_id),
             Body::TransferIn { urb, out_size } => urb.values_hold(true, *out_size, no_ack_ms),
-            Body::TransferOut { urb, data } => {
-                urb.values_hold(false, data.len() as u32, no_ack_ms)
-            }
+            Body::TransferOut { urb, data } => urb.values_hold(false, data.len() as u32, no_ack_ms),
             Body::Retract { reason } => *reason == 1,
             Body::UrbCompletion { data, .. } => !data.is_empty(),
             Body::AddVirtualChannel

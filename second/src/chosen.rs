@@ -5,6 +5,7 @@
 
 use crate::calls::{Call, FIELDS, INTERFACE_CALL};
 use crate::compose::{interface, Put};
+use crate::drawn;
 use crate::urb::{
     ABORT_PIPE, BULK_OR_INTERRUPT_TRANSFER, CONTROL_TRANSFER, GET_CURRENT_FRAME_NUMBER,
     ISOCH_TRANSFER, SELECT_CONFIGURATION, SELECT_INTERFACE, SYNC_RESET_PIPE_AND_CLEAR_STALL,
@@ -19,7 +20,7 @@ const MESSAGE_ID: u32 = 0x0A0B_0C0D;
 const REFUSED_ROOM: u32 = 20;
 
 /// Which structure a TsUrb is given as (F2), and its functions.
-const STRUCTURES: [(u32, &[u16]); 7] = [
+pub const STRUCTURES: [(u32, &[u16]); 7] = [
     (0, &[SELECT_CONFIGURATION]),
     (1, &[SELECT_INTERFACE]),
     (2, &[GET_CURRENT_FRAME_NUMBER]),
@@ -225,7 +226,7 @@ fn samples() -> Vec<(Call, usize)> {
 }
 
 /// The first field behind those of this structure.
-fn urb_fields(which: u32) -> usize {
+pub fn urb_fields(which: u32) -> usize {
     match which {
         0 | 6 => 12,
         1 => 9,
@@ -240,11 +241,11 @@ fn units(text: &[u16]) -> Vec<u8> {
     text.iter().flat_map(|unit| unit.to_le_bytes()).collect()
 }
 
-/// "A", "B" and "C", an empty text, and "D" for the container.
+/// "A"; "B" and "C"; "C" again, whose bytes are lent once; "D".
 fn device() -> Call {
     let lent = units(&[0x41, 0, 0x42, 0, 0x43, 0, 0, 0x44, 0]);
     let fields = [
-        1, DEVICE, 0, 4, 4, 10, 2, 0, 14, 4, 28, 2, 0x600, 0x200, 0, 1, 0,
+        1, DEVICE, 0, 4, 4, 10, 8, 6, 14, 4, 28, 2, 0x600, 0x200, 0, 1, 0,
     ];
     call(6, &fields, &lent)
 }
@@ -419,7 +420,11 @@ fn capabilities(sheet: &mut Sheet) {
     sheet.values(&base, 1, &GIVEN_IDS);
     sheet.values(&base, 10, &[0, 27, 28, 29, 0x11C, MOST]);
     sheet.values(&base, 11, &[0, 1, 2, 3, 0x102, MOST]);
-    sheet.values(&base, 12, &[0, 0x4FF, 0x500, 0x501, 0x5FF, 0x600, 0x601, MOST]);
+    sheet.values(
+        &base,
+        12,
+        &[0, 0x4FF, 0x500, 0x501, 0x5FF, 0x600, 0x601, MOST],
+    );
     sheet.values(
         &base,
         13,
@@ -432,11 +437,7 @@ fn capabilities(sheet: &mut Sheet) {
     for bus in [0, 1, 2] {
         sheet.values(&base.with(11, bus), 15, &[0, 1, 2]);
     }
-    sheet.values(
-        &base,
-        16,
-        &[0, 1, 9, 10, 11, 511, 512, 513, 0x1_000A, MOST],
-    );
+    sheet.values(&base, 16, &[0, 1, 9, 10, 11, 511, 512, 513, 0x1_000A, MOST]);
 }
 
 fn texts(sheet: &mut Sheet) {
@@ -563,7 +564,9 @@ fn functions(sheet: &mut Sheet) {
 
 fn descriptors(sheet: &mut Sheet) {
     let list = interfaces(&[1]);
-    for flag in [0, 1, 2, 0x7F, 0x80, 0xFE, 0xFF, 0x100, 0x101, 0x1_0000, TOP, MOST] {
+    for flag in [
+        0, 1, 2, 0x7F, 0x80, 0xFE, 0xFF, 0x100, 0x101, 0x1_0000, TOP, MOST,
+    ] {
         sheet.add(&configuration(flag, 1, &list, &descriptor(9)));
         sheet.add(&configuration(flag, 1, &list, &[]));
     }
@@ -571,7 +574,16 @@ fn descriptors(sheet: &mut Sheet) {
         sheet.add(&configuration(1, 1, &list, &descriptor(count)));
     }
     sheet.add(&configuration(0, 1, &list, &[9]));
-    let starts = [[9, 2], [9, 1], [9, 3], [8, 2], [10, 2], [2, 9], [0, 0], [9, 0x82]];
+    let starts = [
+        [9, 2],
+        [9, 1],
+        [9, 3],
+        [8, 2],
+        [10, 2],
+        [2, 9],
+        [0, 0],
+        [9, 0x82],
+    ];
     for start in starts {
         let mut bytes = descriptor(12);
         bytes[..2].copy_from_slice(&start);
@@ -583,7 +595,12 @@ fn descriptors(sheet: &mut Sheet) {
     sheet.ends(&base, 10);
     sheet.empties(&configuration(0, 1, &list, &[]), 10);
     sheet.empties(&configuration(0, 0, &[], &[]), 8);
-    sheet.rooms(&configuration(0, 0, &[], &[]).with_part(8, 0, 0).with_part(10, 0, 0).with_lent(&[]));
+    sheet.rooms(
+        &configuration(0, 0, &[], &[])
+            .with_part(8, 0, 0)
+            .with_part(10, 0, 0)
+            .with_lent(&[]),
+    );
 }
 
 fn lists(sheet: &mut Sheet) {
@@ -597,7 +614,12 @@ fn lists(sheet: &mut Sheet) {
     for pipes in [0, 1, 29, 30, 31, 32] {
         sheet.add(&configuration(0, 1, &interfaces(&[pipes]), &[]));
         sheet.add(&select_interface(&interfaces(&[pipes])));
-        sheet.add(&configuration(1, 3, &interfaces(&[0, 2, pipes]), &descriptor(9)));
+        sheet.add(&configuration(
+            1,
+            3,
+            &interfaces(&[0, 2, pipes]),
+            &descriptor(9),
+        ));
         sheet.add(&configuration(0, 2, &interfaces(&[pipes, 1]), &[]));
     }
     // Length beside the pipe count; the last two fit in fewer bits alone.
@@ -698,7 +720,11 @@ fn ends_of_requests(sheet: &mut Sheet) {
     let done = io_completion();
     sheet.values(&done, 0, &ids);
     // Sizes that disagree with these are a table's to refuse.
-    sheet.values(&done, 1, &[0, 1, 0x7FFF_FFFF, 0x8007_007A, 0x8007_001F, TOP, MOST]);
+    sheet.values(
+        &done,
+        1,
+        &[0, 1, 0x7FFF_FFFF, 0x8007_007A, 0x8007_001F, TOP, MOST],
+    );
     sheet.values(&done, 2, &[0, 4, 6, TOP, MOST]);
     sheet.ends(&done, 3);
     sheet.empties(&done, 3);
@@ -850,7 +876,15 @@ fn largest(sheet: &mut Sheet) {
     sheet.calls.push(done.with(6, 32_750).in_room(65_536));
 }
 
+/// The calls of the committed file: the chosen ones and some drawn from a fixed
+/// seed, without giants, which would make the file large.
 pub fn calls() -> Vec<Call> {
+    let mut all = chosen();
+    all.extend(drawn::calls(1, 300, false));
+    all
+}
+
+fn chosen() -> Vec<Call> {
     let mut sheet = Sheet::default();
     for (sample, used) in samples() {
         sheet.rooms(&sample);

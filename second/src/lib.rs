@@ -16,6 +16,7 @@ pub mod capture;
 pub mod chosen;
 pub mod compose;
 pub mod damage;
+pub mod drawn;
 pub mod journal;
 pub mod kinds;
 pub mod maker;

@@ -255,9 +255,7 @@ impl<'m> Urb<'m> {
         };
         let carries_data = matches!(
             self.structure,
-            Structure::Control { .. }
-                | Structure::BulkOrInterrupt { .. }
-                | Structure::Isoch { .. }
+            Structure::Control { .. } | Structure::BulkOrInterrupt { .. } | Structure::Isoch { .. }
         );
         let isoch = matches!(self.structure, Structure::Isoch { .. });
         let direction = carries_data || (inward && out_size == 0);

@@ -59,9 +59,9 @@ impl Message<'_> {
         let line = line_of(&self.body)?;
         let interface = match line.port {
             Port::Fixed(id) => id,
-            Port::Device | Port::Callback => {
-                (4..=LOW_30).contains(&self.interface).then_some(self.interface)?
-            }
+            Port::Device | Port::Callback => (4..=LOW_30)
+                .contains(&self.interface)
+                .then_some(self.interface)?,
         };
         if !agrees(&self.body) || !self.body.values_hold(SOME_NO_ACK_MS) {
             return None;
@@ -306,7 +306,10 @@ fn urb_bytes(urb: &Urb) -> Option<Vec<u8>> {
             packets,
         } => {
             let count = u32::try_from(packets.len() / 12).ok()?;
-            put_words(&mut rest, &[*handle, *flags, *start_frame, count, *error_count]);
+            put_words(
+                &mut rest,
+                &[*handle, *flags, *start_frame, count, *error_count],
+            );
             rest.extend(*packets);
         }
         Structure::Unknown => return None,
