@@ -689,7 +689,7 @@ fn packets(sheet: &mut Sheet) {
     }
     sheet.empties(&control, 8);
     for kind in [10, 11] {
-        for size in [0, 1, 11, 12, 13, 23, 24, 25, 120] {
+        for size in [0, 1, 4, 8, 11, 12, 13, 16, 23, 24, 25, 120] {
             sheet.add(&isoch(kind, size));
         }
         sheet.ends(&isoch(kind, 12), 10);
