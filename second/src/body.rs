@@ -1,7 +1,9 @@
 //! 01 "Bodies after the 12 bytes".
 //!
 //! As in `urb`, `Body::read` is all of answer 7 and `Body::values_hold` all of
-//! answer 8, so every 7 of a message is tried before any 8 of it.
+//! answer 8, so every 7 of a message is tried before any 8 of it. A `Body` holds
+//! every field of its message that is not a count of another, so that the writer
+//! can make the message again from it.
 
 use crate::kinds::{Kind, LOW_30};
 use crate::urb::Urb;
@@ -10,8 +12,8 @@ use crate::wire::Cursor;
 const MOST_UNITS: usize = 512;
 
 /// The units of one counted text, two bytes each.
-#[derive(Clone, Copy, Debug)]
-pub struct Text<'m>(&'m [u8]);
+#[derive(Clone, Copy, Debug, PartialEq, Eq)]
+pub struct Text<'m>(pub &'m [u8]);
 
 impl<'m> Text<'m> {
     fn read(cursor: &mut Cursor<'m>) -> Option<Text<'m>> {
@@ -19,7 +21,7 @@ impl<'m> Text<'m> {
         cursor.take(2 * u64::from(count)).map(Text)
     }
 
-    fn units(&self) -> usize {
+    pub fn units(&self) -> usize {
         self.0.len() / 2
     }
 
@@ -32,20 +34,20 @@ impl<'m> Text<'m> {
 }
 
 /// 000 2.2.4.2 and 2.2.11.
-#[derive(Clone, Copy, Debug)]
+#[derive(Clone, Copy, Debug, PartialEq, Eq)]
 pub struct NewDevice<'m> {
-    devices: u32,
+    pub devices: u32,
     pub interface: u32,
-    instance_id: Text<'m>,
-    hardware_ids: Text<'m>,
-    compatible_ids: Text<'m>,
-    container_id: Text<'m>,
-    cb_size: u32,
-    bus_version: u32,
-    usbdi_version: u32,
-    usb_version: u32,
-    host: u32,
-    speed: u32,
+    pub instance_id: Text<'m>,
+    pub hardware_ids: Text<'m>,
+    pub compatible_ids: Text<'m>,
+    pub container_id: Text<'m>,
+    pub cb_size: u32,
+    pub bus_version: u32,
+    pub usbdi_version: u32,
+    pub usb_version: u32,
+    pub host: u32,
+    pub speed: u32,
     pub no_ack_ms: u32,
 }
 
@@ -91,7 +93,28 @@ fn given_id(id: u32) -> bool {
     id & LOW_30 > 3
 }
 
-#[derive(Clone, Debug)]
+/// A TS_URB_RESULT: UsbdStatus and what stands behind the 8 bytes of its header
+/// (000 2.2.10.1.1), which is not looked at (01 "The gate's duties").
+#[derive(Clone, Copy, Debug, PartialEq, Eq)]
+pub struct UrbResult<'m> {
+    pub status: u32,
+    pub more: &'m [u8],
+}
+
+impl<'m> UrbResult<'m> {
+    /// From CbTsUrbResult on.
+    fn read(cursor: &mut Cursor<'m>) -> Option<UrbResult<'m>> {
+        let result = cursor.counted()?;
+        let mut inside = Cursor::over(result);
+        let size = inside.half()?;
+        inside.take(2)?;
+        let status = inside.word()?;
+        let more = inside.take(inside.left())?;
+        (u64::from(size) == result.len() as u64).then_some(UrbResult { status, more })
+    }
+}
+
+#[derive(Clone, Debug, PartialEq, Eq)]
 pub enum Body<'m> {
     CapabilityRequest {
         value: u32,
@@ -100,7 +123,9 @@ pub enum Body<'m> {
         value: u32,
         result: u32,
     },
+    /// Kind 3 from the server, 4 from the client.
     Created {
+        server: bool,
         major: u32,
         minor: u32,
         capabilities: u32,
@@ -108,17 +133,24 @@ pub enum Body<'m> {
     AddVirtualChannel,
     AddDevice(NewDevice<'m>),
     RegisterCallback {
+        count: u32,
         callback: Option<u32>,
     },
+    /// Kind 9 where `internal`, else 8.
     Io {
+        internal: bool,
+        code: u32,
         input: &'m [u8],
         out_size: u32,
         request: u32,
     },
-    Transfer {
-        inward: bool,
-        urb: Urb,
+    TransferIn {
+        urb: Urb<'m>,
         out_size: u32,
+    },
+    /// Kinds 11 and 12: OutputBufferSize is the number of bytes of `data`.
+    TransferOut {
+        urb: Urb<'m>,
         data: &'m [u8],
     },
     Cancel {
@@ -127,6 +159,7 @@ pub enum Body<'m> {
     Retract {
         reason: u32,
     },
+    /// Kind 15: OutputBufferSize is the number of bytes of `data`.
     IoCompletion {
         request: u32,
         hresult: u32,
@@ -136,27 +169,44 @@ pub enum Body<'m> {
     /// Kind 16: OutputBufferSize is the number of bytes of `data`.
     UrbCompletion {
         request: u32,
+        result: UrbResult<'m>,
+        hresult: u32,
         data: &'m [u8],
     },
     /// Kind 17: a size with no bytes behind it.
     UrbCompletionNoData {
         request: u32,
+        result: UrbResult<'m>,
+        hresult: u32,
         size: u32,
     },
 }
 
-/// CbTsUrbResult, the result and HResult; of the result only its header is
-/// looked at (01 "The gate's duties", 000 2.2.10.1.1).
-fn read_result(cursor: &mut Cursor) -> Option<()> {
-    let result = cursor.counted()?;
-    let mut header = Cursor::over(result);
-    let size = header.half()?;
-    header.take(6)?;
-    cursor.word()?;
-    (u64::from(size) == result.len() as u64).then_some(())
-}
-
 impl<'m> Body<'m> {
+    /// The kind whose message this is the body of; 11 also with NoAck.
+    pub fn kind(&self) -> Kind {
+        match self {
+            Body::CapabilityRequest { .. } => Kind::CapabilityRequest,
+            Body::CapabilityResponse { .. } => Kind::CapabilityResponse,
+            Body::Created { server: true, .. } => Kind::ServerCreated,
+            Body::Created { server: false, .. } => Kind::ClientCreated,
+            Body::AddVirtualChannel => Kind::AddVirtualChannel,
+            Body::AddDevice(_) => Kind::AddDevice,
+            Body::RegisterCallback { .. } => Kind::RegisterCallback,
+            Body::Io {
+                internal: false, ..
+            } => Kind::IoControl,
+            Body::Io { internal: true, .. } => Kind::InternalIoControl,
+            Body::TransferIn { .. } => Kind::TransferIn,
+            Body::TransferOut { .. } => Kind::TransferOut,
+            Body::Cancel { .. } => Kind::Cancel,
+            Body::Retract { .. } => Kind::Retract,
+            Body::IoCompletion { .. } => Kind::IoCompletion,
+            Body::UrbCompletion { .. } => Kind::UrbCompletion,
+            Body::UrbCompletionNoData { .. } => Kind::UrbCompletionNoData,
+        }
+    }
+
     /// `None` is answer 7.
     pub fn read(kind: Kind, message: &'m [u8]) -> Option<Body<'m>> {
         let mut cursor = Cursor::over(message);
@@ -175,6 +225,7 @@ impl<'m> Body<'m> {
                 result: cursor.word()?,
             },
             Kind::ServerCreated | Kind::ClientCreated => Body::Created {
+                server: kind == Kind::ServerCreated,
                 major: cursor.word()?,
                 minor: cursor.word()?,
                 capabilities: cursor.word()?,
@@ -188,32 +239,23 @@ impl<'m> Body<'m> {
                 } else {
                     Some(cursor.word()?)
                 };
-                Body::RegisterCallback { callback }
+                Body::RegisterCallback { count, callback }
             }
-            Kind::IoControl | Kind::InternalIoControl => {
-                cursor.word()?;
-                Body::Io {
-                    input: cursor.counted()?,
-                    out_size: cursor.word()?,
-                    request: cursor.word()?,
-                }
-            }
-            Kind::TransferIn => Body::Transfer {
-                inward: true,
+            Kind::IoControl | Kind::InternalIoControl => Body::Io {
+                internal: kind == Kind::InternalIoControl,
+                code: cursor.word()?,
+                input: cursor.counted()?,
+                out_size: cursor.word()?,
+                request: cursor.word()?,
+            },
+            Kind::TransferIn => Body::TransferIn {
                 urb: Urb::read(cursor.counted()?)?,
                 out_size: cursor.word()?,
-                data: cursor.take(0)?,
             },
-            Kind::TransferOut | Kind::NoAckTransferOut => {
-                let urb = Urb::read(cursor.counted()?)?;
-                let data = cursor.counted()?;
-                Body::Transfer {
-                    inward: false,
-                    urb,
-                    out_size: data.len() as u32,
-                    data,
-                }
-            }
+            Kind::TransferOut | Kind::NoAckTransferOut => Body::TransferOut {
+                urb: Urb::read(cursor.counted()?)?,
+                data: cursor.counted()?,
+            },
             Kind::Cancel => Body::Cancel {
                 request: cursor.word()?,
             },
@@ -226,22 +268,18 @@ impl<'m> Body<'m> {
                 information: cursor.word()?,
                 data: cursor.counted()?,
             },
-            Kind::UrbCompletion => {
-                let request = cursor.word()?;
-                read_result(&mut cursor)?;
-                Body::UrbCompletion {
-                    request,
-                    data: cursor.counted()?,
-                }
-            }
-            Kind::UrbCompletionNoData => {
-                let request = cursor.word()?;
-                read_result(&mut cursor)?;
-                Body::UrbCompletionNoData {
-                    request,
-                    size: cursor.word()?,
-                }
-            }
+            Kind::UrbCompletion => Body::UrbCompletion {
+                request: cursor.word()?,
+                result: UrbResult::read(&mut cursor)?,
+                hresult: cursor.word()?,
+                data: cursor.counted()?,
+            },
+            Kind::UrbCompletionNoData => Body::UrbCompletionNoData {
+                request: cursor.word()?,
+                result: UrbResult::read(&mut cursor)?,
+                hresult: cursor.word()?,
+                size: cursor.word()?,
+            },
             // A close is a call of its own and has no message.
             Kind::Closed => return None,
         };
@@ -258,15 +296,12 @@ impl<'m> Body<'m> {
                 major,
                 minor,
                 capabilities,
+                ..
             } => (*major, *minor, *capabilities) == (1, 0, 0),
             Body::AddDevice(device) => device.values_hold(),
-            Body::RegisterCallback { callback } => callback.is_none_or(given_id),
-            Body::Transfer {
-                inward,
-                urb,
-                out_size,
-                ..
-            } => urb.values_hold(*inward, *out_size, no_ack_ms),
+            Body::RegisterCallback { callback, .. } => callback.is_none_or(given_id),
+            Body::TransferIn { urb, out_size } => urb.values_hold(true, *out_size, no_ack_ms),
+            Body::TransferOut { urb, data } => urb.values_hold(false, data.len() as u32, no_ack_ms),
             Body::Retract { reason } => *reason == 1,
             Body::UrbCompletion { data, .. } => !data.is_empty(),
             Body::AddVirtualChannel

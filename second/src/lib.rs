@@ -1,5 +1,5 @@
-//! A second, independent reading of document 01, made to be run beside the
-//! first one on the same captures.
+//! A second, independent reading of document 01 and of 02 R-1, made to be run
+//! beside the first one on the same captures and calls.
 //!
 //! The modules follow the headings of 01: `wire` reads numbers, `kinds` is the
 //! table of "Header and kinds", `body` and `urb` are "Bodies after the 12
@@ -8,18 +8,28 @@
 //! `proper` (messages as 01 wants them), `aims` (messages wrong in one chosen
 //! way) and `damage` (blind damage), all on top of `compose`; `tally` counts
 //! what a capture reaches.
+//!
+//! `writer` is 02 R-1: from the fields that `body` and `urb` read to the bytes
+//! of a message. `rebuild` makes the messages of a capture anew with it; `calls`
+//! is a file of calls of it, `chosen` such calls picked by hand and `drawn` such
+//! calls from a seed.
 
 pub mod aims;
 pub mod body;
+pub mod calls;
 pub mod capture;
+pub mod chosen;
 pub mod compose;
 pub mod damage;
+pub mod drawn;
 pub mod journal;
 pub mod kinds;
 pub mod maker;
 pub mod proper;
+pub mod rebuild;
 pub mod rng;
 pub mod table;
 pub mod tally;
 pub mod urb;
 pub mod wire;
+pub mod writer;

@@ -1,7 +1,7 @@
 use std::io::{self, Read, Write};
 use std::process::ExitCode;
 
-use second::{capture, maker, tally};
+use second::{calls, capture, chosen, drawn, maker, rebuild, tally};
 
 const USAGE: &str = "\
 second list [--first N]    the listing of a capture
@@ -9,7 +9,12 @@ second payloads            length and Adler-32 of each call's payload
 second make SEED CALLS     a capture on standard output
 second tally               kinds and answers that a capture reaches
 second record N            one record, counted from 1
-list, payloads, tally and record read a capture on standard input";
+second rebuild             a capture with its messages made anew by the writer
+second calls               the chosen calls of the writer
+second calls SEED N        N calls of the writer drawn from a seed
+second write               what the writer answers to calls
+list, payloads, tally, record and rebuild read a capture on standard input,
+write a file of calls";
 
 enum Failure {
     Usage,
@@ -43,6 +48,17 @@ fn run(arguments: &[&str]) -> Result<Vec<u8>, Failure> {
         }
         ["payloads"] => Ok(capture::payloads(&input()?).into_bytes()),
         ["make", seed, calls] => Ok(maker::make(number(seed)?, number(calls)?)),
+        ["rebuild"] => rebuild::rebuild(&input()?)
+            .map_err(|record| Failure::Text(format!("record {record} cannot be made anew"))),
+        ["calls"] => Ok(calls::file(&chosen::calls())),
+        ["calls", seed, count] => {
+            let drawn = drawn::calls(number(seed)?, number(count)?, true);
+            Ok(calls::file(&drawn))
+        }
+        ["write"] => {
+            let calls = calls::read(&input()?).map_err(Failure::Text)?;
+            Ok(calls::print(&calls).into_bytes())
+        }
         ["tally"] => Ok(tally::Tally::of(&input()?).print().into_bytes()),
         ["record", wanted] => {
             let wanted = number(wanted)?;

@@ -4,6 +4,7 @@ use std::fmt::Write;
 
 use crate::capture::Capture;
 use crate::kinds::CLOSE;
+use crate::rebuild;
 use crate::table::Table;
 
 pub const KINDS: usize = 19;
@@ -38,8 +39,21 @@ pub struct Tally {
     pub calls: u64,
     pub short: bool,
     pub pairs: [[u64; ANSWERS]; KINDS],
+    /// Messages that pass checks 3 to 8 and have padding that is not zero:
+    /// what rebuilding has to change.
+    pub padded: u64,
     lengths: Vec<usize>,
     bytes: usize,
+}
+
+/// How many records are not what they were once the capture is rebuilt.
+fn changed(capture: &Capture, bytes: &[u8]) -> u64 {
+    let again = rebuild::rebuild(bytes).unwrap_or_default();
+    let again = Capture::read(&again);
+    let pairs = capture.records.iter().zip(&again.records);
+    pairs
+        .filter(|(old, new)| old.message != new.message)
+        .count() as u64
 }
 
 impl Tally {
@@ -50,6 +64,7 @@ impl Tally {
             calls: 0,
             short: capture.short,
             pairs: [[0; ANSWERS]; KINDS],
+            padded: changed(&capture, bytes),
             lengths: Vec::new(),
             bytes: bytes.len(),
         };
@@ -105,6 +120,7 @@ impl Tally {
         let _ = writeln!(out, "bytes {}", self.bytes);
         let _ = writeln!(out, "message length: median {middle}, largest {largest}");
         let _ = writeln!(out, "ends short: {}", if self.short { "yes" } else { "no" });
+        let _ = writeln!(out, "messages with padding to clear: {}", self.padded);
 
         let _ = writeln!(out, "\nanswer   count   share");
         for answer in (0..ANSWERS).filter(|answer| *answer != 1) {

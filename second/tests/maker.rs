@@ -41,6 +41,7 @@ fn every_mix_reaches_every_answer() {
                 "seed {seed} answer {answer}"
             );
         }
+        assert!(100 * tally.padded >= tally.calls, "seed {seed} padding");
         for kind in 1..=18 {
             assert!(tally.pairs[kind][0] > 0, "seed {seed} kind {kind}");
         }
