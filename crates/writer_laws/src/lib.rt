@@ -1,0 +1,1 @@
+// No code: what is written is read back, and what was read is written again.
