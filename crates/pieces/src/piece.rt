@@ -146,6 +146,7 @@ fn put_run(lent: &[u8], part: Part, buf: &mut [u8], at: usize)
 
 // The row at a place, of an interface where no pipe is to come.
 fn row_at(lent: &[u8], at: usize, pipes: u32) -> Row
+    requires { ⌜ at + 12 ≤ length (now lent) ⌝ }
     ensures { λ r. ⌜ r ≡ rowOf (now (lent .entry)) at pipes ⌝ }
 {
     if pipes == 0 {
