@@ -115,3 +115,12 @@ fn pieces(id: MessageId, fields: Fields) -> [Piece; 20]
     }
 }
 
+// Writes a message to a buffer's start, and says how long it is: 15 before 16, and where it is refused the buffer stays as it was lent.
+pub fn write(id: MessageId, fields: Fields, lent: &[u8], buf: &mut [u8]) -> Written
+    ensures { λ r. ⌜ (r ≡ writtenOf id fields (now (lent .entry)) (length (now (buf .entry)))) × (now (buf .exit) ≡ bufferOf id fields (now (lent .entry)) (now (buf .entry))) ⌝ }
+{
+    if !given(fields, lent) {
+        return Written::Value;
+    }
+    piece::write(pieces(id, fields), lent, buf)
+}

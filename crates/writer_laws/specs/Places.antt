@@ -17,6 +17,6 @@ Stands w s at (Run p) = cut w (record { start = at; size = p .size }) ≡ cut s 
 Stands w s at (Interfaces p) = cut w (record { start = at; size = p .size / 12 * 12 }) ≡ interfacesOf s (p .size / 12) 0 (p .start)
 
 -- pieces one behind the other from a place on, to the end of the message
-pub Places : List ℕ → List ℕ → ℕ → List Piece → Type 0
+abbrev pub Places : List ℕ → List ℕ → ℕ → List Piece → Type 0
 Places w s at [] = length w ≡ at
 Places w s at (p ∷ ps) = Stands w s at p × Places w s (at + sizeOf p) ps

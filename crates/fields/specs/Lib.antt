@@ -1,0 +1,4 @@
+pub mod AddDevice
+pub mod UrbCompletion
+pub mod Transfer
+pub mod Message
