@@ -6,9 +6,9 @@ use mathlib.Core.Path.{_≡_, refl, sym, _∙_}
 use mathlib.Core.List.{List, [], _∷_, _++_}
 use mathlib.Core.Bool.{Bool, true, false, not, _&&_}
 use lib.ListN.{length, drop, getD, drop-of-length-le, length-drop}
-use lib.Dec.{leb, eqb}
+use lib.Dec.{leb}
 use lib.Seq.{drop-cons}
-use borrow.Author.Tests.{leb-true, not-false, lt-ltb, le-ltb, le-leb, lt-leb, eq-eqb}
+use borrow.Author.Tests.{leb-true, not-false, not-true, lt-ltb, le-ltb, le-leb, lt-leb, eq-eqb}
 use Rattle.words.specs.Written.{written, wordBytes}
 use Rattle.words.proofs.Written.{written-on, written-whole}
 use Rattle.pieces.specs.Pieces.{bufferBy}
@@ -46,14 +46,10 @@ both : (a b : Bool) → (a && b) ≡ true → (a ≡ true) × (b ≡ true)
 both true b e = (refl, e)
 both false b e = let z : _≡_ {A = ℕ} 0 1 = cc in absurd (omega arith)
 
--- numbers that are allowed: at least the interface's, at most those of 30 pipes
-pub allowed-many : (ns : List ℕ) → numbersAllowed ns ≡ true → (3 ≤ length ns) × (length ns ≤ 93)
+-- numbers that are allowed are at least the interface's; b is the code's test of them
+pub allowed-three : (ns : List ℕ) (b : Bool) → not b ≡ false → b ≡ numbersAllowed ns → 3 ≤ length ns
 unfolding numbersAllowed
-allowed-many ns e = let p = both _ _ e in let q = both _ _ (p .1) in (leb-true 3 (length ns) (p .0), leb-true (length ns) 93 (q .0))
-
--- the same of the code's test
-pub allowed-three : (ns : List ℕ) (b : Bool) → b ≡ numbersAllowed ns → not b ≡ false → 3 ≤ length ns
-allowed-three ns b p q = allowed-many ns (sym p ∙ not-false b q) .0
+allowed-three ns b n e = leb-true 3 (length ns) (both _ _ (sym e ∙ not-false b n) .0)
 
 -- the sizes
 pub numbers-length : (ns : List ℕ) → length (numbersBytes ns) ≡ 4 * length ns
@@ -76,30 +72,30 @@ pub pipes-end : (ns buf w : List ℕ) (i : ℕ) → length ns ≤ i → written 
 unfolding numbersBytes written
 pipes-end ns buf w i h inv = rw (← inv, drop-of-length-le ns h)
 
--- what `write` answers and leaves: of numbers that are not allowed, where there is no room, and where there is
+-- what `write` answers and leaves, b being the code's test of the numbers: of numbers that are not allowed, where there is no room, and where there is
 abbrev Writes : List ℕ → List ℕ → List ℕ → Written → Type 0
 Writes ns buf out r = (r ≡ interfaceWritten ns (length buf)) × (out ≡ bufferBy (interfaceBytes ns) buf (interfaceWritten ns (length buf)))
 
-pub write-value : (ns buf : List ℕ) → numbersAllowed ns ≡ false → Writes ns buf buf Value
+pub write-value : (ns buf : List ℕ) (b : Bool) → not b ≡ true → b ≡ numbersAllowed ns → Writes ns buf buf Value
 unfolding interfaceWritten
-write-value ns buf e = rw e (refl, refl)
+write-value ns buf b n e = rw (← e, not-true b n) (refl, refl)
 
-pub write-room : (ns buf : List ℕ) → numbersAllowed ns ≡ true → length buf < 4 * length ns → Writes ns buf buf Room
+pub write-room : (ns buf : List ℕ) (b : Bool) → not b ≡ false → b ≡ numbersAllowed ns → length buf < 4 * length ns → Writes ns buf buf Room
 unfolding interfaceWritten
-write-room ns buf e h = rw (e, lt-ltb (length buf) (4 * length ns) h) (refl, refl)
+write-room ns buf b n e h = rw (← e, not-false b n, lt-ltb (length buf) (4 * length ns) h) (refl, refl)
 
-interface-written : (ns buf a b c out : List ℕ)
-    → a ≡ written buf 0 (wordBytes (4 * length ns + 65536 * getD ns 0 0)) → b ≡ written a 4 (wordBytes (getD ns 1 0 + 256 * getD ns 2 0)) → c ≡ written b 8 (wordBytes (length ns / 3 - 1))
-    → out ≡ written c 12 (numbersBytes (drop 3 ns)) → out ≡ written buf 0 (interfaceBytes ns)
+interface-written : (ns buf x y z out : List ℕ)
+    → x ≡ written buf 0 (wordBytes (4 * length ns + 65536 * getD ns 0 0)) → y ≡ written x 4 (wordBytes (getD ns 1 0 + 256 * getD ns 2 0)) → z ≡ written y 8 (wordBytes (length ns / 3 - 1))
+    → out ≡ written z 12 (numbersBytes (drop 3 ns)) → out ≡ written buf 0 (interfaceBytes ns)
 unfolding interfaceBytes
-interface-written ns buf a b c out p q r t =
-    t ∙ written-on buf c 0 12 _ (numbersBytes (drop 3 ns)) refl (words-three buf a b c 0 (4 * length ns + 65536 * getD ns 0 0) (getD ns 1 0 + 256 * getD ns 2 0) (length ns / 3 - 1) p q r)
+interface-written ns buf x y z out p q r t =
+    t ∙ written-on buf z 0 12 _ (numbersBytes (drop 3 ns)) refl (words-three buf x y z 0 (4 * length ns + 65536 * getD ns 0 0) (getD ns 1 0 + 256 * getD ns 2 0) (length ns / 3 - 1) p q r)
 
-pub write-whole : (ns buf a b c out : List ℕ) → numbersAllowed ns ≡ true → 4 * length ns ≤ length buf
-    → a ≡ written buf 0 (wordBytes (4 * length ns + 65536 * getD ns 0 0)) → b ≡ written a 4 (wordBytes (getD ns 1 0 + 256 * getD ns 2 0)) → c ≡ written b 8 (wordBytes (length ns / 3 - 1))
-    → out ≡ written c 12 (numbersBytes (drop 3 ns)) → Writes ns buf out (Whole (4 * length ns))
+pub write-whole : (ns buf x y z out : List ℕ) (b : Bool) → not b ≡ false → b ≡ numbersAllowed ns → 4 * length ns ≤ length buf
+    → x ≡ written buf 0 (wordBytes (4 * length ns + 65536 * getD ns 0 0)) → y ≡ written x 4 (wordBytes (getD ns 1 0 + 256 * getD ns 2 0)) → z ≡ written y 8 (wordBytes (length ns / 3 - 1))
+    → out ≡ written z 12 (numbersBytes (drop 3 ns)) → Writes ns buf out (Whole (4 * length ns))
 unfolding interfaceWritten
-write-whole ns buf a b c out e h p q r t =
-    let l = interface-length ns (allowed-many ns e .0) in
-    let k : out ≡ interfaceBytes ns ++ drop (4 * length ns) buf = rw (interface-written ns buf a b c out p q r t, written-whole buf (interfaceBytes ns) (omega arith), l) in
-    rw (e, le-ltb (length buf) (4 * length ns) h) (refl, k)
+write-whole ns buf x y z out b n e h p q r t =
+    let l = interface-length ns (allowed-three ns b n e) in
+    let k : out ≡ interfaceBytes ns ++ drop (4 * length ns) buf = rw (interface-written ns buf x y z out p q r t, written-whole buf (interfaceBytes ns) (omega arith), l) in
+    rw (← e, not-false b n, le-ltb (length buf) (4 * length ns) h) (refl, k)

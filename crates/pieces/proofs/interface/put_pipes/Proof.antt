@@ -27,7 +27,6 @@ put-pipes-spec =
     (search needs)
     (search needs)
     (search needs)
-    -- cast
     (λ c. omega (arith, c .shared-slice-known2 .given (c .before .before .before .loop .i)))
     (search needs)
     (search needs)
