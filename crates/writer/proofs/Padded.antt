@@ -2,7 +2,8 @@
 use Prim.Native.Nat.{ℕ, zero, suc, _+_, _-_}
 use mathlib.Core.Path.{_≡_, refl, ap}
 use mathlib.Core.List.{List, [], _∷_, _++_}
-use lib.ListN.{length, replicate}
+use lib.ListN.{getD, length, replicate}
+use native.Mathlib.Nat.{add-zero}
 use native.Mathlib.Omega.{arith}
 use borrow.Author.Tests.{le-ltb}
 use Rattle.pieces.specs.Pieces.{bytesOf, bufferBy, bufferOf, encode, sizeOf, totalFrom, writtenBy, writtenOf}
@@ -10,6 +11,9 @@ use Rattle.pieces.specs.declared.piece.Piece.{Piece}
 use Rattle.pieces.specs.declared.piece.Piece.the-variants.{Nothing}
 use Rattle.pieces.specs.declared.piece.Total.the-variants.{Fits}
 use Rattle.writer.specs.SharedMsgHeader.{padded}
+use Rattle.writer.specs.TsUrb.{structurePieces}
+use Rattle.writer.specs.declared.ts_urb.Structure.{Structure}
+use Rattle.writer.specs.declared.ts_urb.Structure.the-variants as structure
 
 encode-none : (s : List ℕ) (k : ℕ) → encode s (replicate k Nothing) ≡ []
 unfolding encode
@@ -27,7 +31,7 @@ encode-padded s ps = encode-behind s ps (20 - length ps)
 total-none : (n sum k : ℕ) → totalFrom n sum (replicate k Nothing) ≡ Fits sum
 unfolding totalFrom
 total-none n sum zero = refl
-total-none n sum (suc k) = rw (le-ltb (65535 - sum) 0 (omega arith)) (total-none n sum k)
+total-none n sum (suc k) = rw (le-ltb (65535 - sum) 0 (omega arith), add-zero sum) (total-none n sum k)
 
 total-behind : (n sum : ℕ) (ps : List Piece) (k : ℕ) → totalFrom n sum (ps ++ replicate k Nothing) ≡ totalFrom n sum ps
 unfolding totalFrom
@@ -44,3 +48,16 @@ written-padded s room ps = ap (writtenBy room) (total-padded (length s) 0 ps)
 pub buffer-padded : (s : List ℕ) (ps : List Piece) (buf : List ℕ) → bufferOf s (padded ps) buf ≡ bufferBy (encode s ps) buf (writtenOf s (length buf) ps)
 unfolding bufferOf
 buffer-padded s ps buf = rw (encode-padded s ps, written-padded s (length buf) ps)
+
+-- the six pieces of a structure one by one, between those of a transfer request
+abbrev sixth : Structure → ℕ → Piece
+sixth x k = getD (structurePieces x) k Nothing
+
+pub structure-padded : {a b c d e f g h : Piece} (x : Structure) → (a ∷ b ∷ c ∷ d ∷ e ∷ f ∷ sixth x 0 ∷ sixth x 1 ∷ sixth x 2 ∷ sixth x 3 ∷ sixth x 4 ∷ sixth x 5 ∷ g ∷ h ∷ Nothing ∷ Nothing ∷ Nothing ∷ Nothing ∷ Nothing ∷ Nothing ∷ []) ≡ padded (a ∷ b ∷ c ∷ d ∷ e ∷ f ∷ (structurePieces x ++ (g ∷ h ∷ [])))
+structure-padded (structure.SelectConfiguration x) = refl
+structure-padded (structure.SelectInterface x) = refl
+structure-padded structure.GetCurrentFrameNumber = refl
+structure-padded (structure.PipeRequest x) = refl
+structure-padded (structure.BulkOrInterruptTransfer x) = refl
+structure-padded (structure.ControlTransfer x) = refl
+structure-padded (structure.IsochTransfer x) = refl
