@@ -1,12 +1,12 @@
 -- A part that is allowed lies in the lent bytes, and is not longer than a message may be.
 use Prim.Native.Nat.{ℕ, _+_, _-_, _≤_}
-use mathlib.Core.Path.{_≡_, refl, sym, _∙_}
+use mathlib.Core.Path.{_≡_, refl}
 use mathlib.Core.List.{List}
-use mathlib.Core.Bool.{Bool, true, false, not, cond}
+use mathlib.Core.Bool.{Bool, true, false, cond}
 use lib.Dec.{leb, ltb}
 use lib.ListN.{length}
 use native.Mathlib.Omega.{arith}
-use borrow.Author.Tests.{leb-true, ltb-false, not-false}
+use borrow.Author.Tests.{leb-true, ltb-false}
 use Rattle.words.specs.declared.layout.Part.{Part}
 use Rattle.writer.specs.Part.{partAllowed}
 
@@ -18,12 +18,8 @@ passed : (b x : Bool) → cond b false x ≡ true → (b ≡ false) × (x ≡ tr
 passed true x e = let z : _≡_ {A = ℕ} 0 1 = cc in absurd (omega arith)
 passed false x e = (refl, e)
 
-pub allowed-lies : (s : List ℕ) (p : Part) → partAllowed s p ≡ true → Lies s p
-allowed-lies s p e =
+pub lies : (s : List ℕ) (p : Part) → partAllowed s p ≡ true → Lies s p
+lies s p e =
     let a = passed (ltb (length s) (p .start)) (cond (ltb (length s - p .start) (p .size)) false (leb (p .size) 65535)) e in
     let b = passed (ltb (length s - p .start) (p .size)) (leb (p .size) 65535) (a .1) in
     (omega (arith, ltb-false (length s) (p .start) (a .0), ltb-false (length s - p .start) (p .size) (b .0)), leb-true (p .size) 65535 (b .1))
-
--- as a caller of `part::allowed` learns it
-pub lies : {r : Bool} (s : List ℕ) (p : Part) → r ≡ partAllowed s p → not r ≡ false → Lies s p
-lies {r} s p e h = allowed-lies s p (sym e ∙ not-false r h)

@@ -1,9 +1,9 @@
 -- What `message::write` leans on: fields that are given are small, and the pieces behind a message's own change nothing.
 use Prim.Native.Nat.{ℕ, _≤_}
-use mathlib.Core.Path.{_≡_, refl, sym, _∙_}
+use mathlib.Core.Path.{_≡_, refl}
 use mathlib.Core.List.{List}
 use mathlib.Core.Bool.{Bool, true, false, cond, not, _&&_}
-use lib.Dec.{eqb, leb, ltb}
+use lib.Dec.{eqb, ltb}
 use lib.ListN.{length}
 use native.Mathlib.Omega.{arith}
 use Rattle.header.specs.declared.ids.MessageId.{MessageId}
@@ -13,7 +13,7 @@ use Rattle.pieces.specs.declared.piece.Piece.{Piece}
 use Rattle.pieces.specs.declared.piece.Written.the-variants.{Value}
 use Rattle.writer.specs.SharedMsgHeader.{interfaceAllowed, padded}
 use Rattle.writer.specs.Part.{partAllowed}
-use Rattle.writer.specs.TsUrb.{Small, configurationBy, configurationStated, controlStated, descriptorSized, interfaceBy, interfaceStated, isochStated, listedOf, statedOf}
+use Rattle.writer.specs.TsUrb.{Small, configurationStated, controlStated, interfaceStated, isochStated, statedOf}
 use Rattle.writer.specs.Transfer.{incomingBy, outgoingBy, requestAllowed, transferInGiven, transferOutGiven}
 use Rattle.writer.specs.UrbCompletion.{resultGiven}
 use Rattle.writer.specs.Message.{SmallFields, bufferOf, givenIn, piecesOf, writtenOf}
@@ -26,7 +26,7 @@ use Rattle.writer.specs.declared.transfer.TransferInFields.{TransferInFi
 use Rattle.writer.specs.declared.transfer.TransferOutFields.{TransferOutFields}
 use Rattle.writer.specs.declared.message.Fields.{Fields}
 use Rattle.writer.specs.declared.message.Fields.the-variants.{CapabilityRequest, CapabilityResponse, ChannelCreatedByServer, ChannelCreatedByClient, AddVirtualChannel, AddDevice, RegisterRequestCallback, IoControl, InternalIoControl, TransferInRequest, TransferOutRequest, CancelRequest, RetractDevice, IoControlCompletion, UrbCompletion, UrbCompletionNoData}
-use Rattle.writer.proofs.Lies.{allowed-lies}
+use Rattle.writer.proofs.Lies.{lies}
 use Rattle.writer.proofs.Padded.{buffer-padded, written-padded}
 
 both : (a b : Bool) → (a && b) ≡ true → (a ≡ true) × (b ≡ true)
@@ -49,16 +49,16 @@ stated-small s function (structure.SelectConfiguration b) u e =
     let a = tested (eqb function 0x0000) (configurationStated s b) u e .1 in
     let l = tested (partAllowed s (b .interfaces)) _ u (untested (ltb 255 (b .flag)) _ u a) in
     let d = tested (partAllowed s (b .descriptor)) _ u (l .1) in
-    (allowed-lies s (b .interfaces) (l .0) .1, allowed-lies s (b .descriptor) (d .0) .1)
+    (lies s (b .interfaces) (l .0) .1, lies s (b .descriptor) (d .0) .1)
 stated-small s function (structure.SelectInterface b) u e =
-    allowed-lies s (b .interface) (tested (partAllowed s (b .interface)) _ u (tested (eqb function 0x0001) (interfaceStated s b) u e .1) .0) .1
+    lies s (b .interface) (tested (partAllowed s (b .interface)) _ u (tested (eqb function 0x0001) (interfaceStated s b) u e .1) .0) .1
 stated-small s function structure.GetCurrentFrameNumber u e = tt
 stated-small s function (structure.PipeRequest b) u e = tt
 stated-small s function (structure.BulkOrInterruptTransfer b) u e = tt
 stated-small s function (structure.ControlTransfer b) u e =
-    allowed-lies s (b .setup) (tested (partAllowed s (b .setup)) _ u (tested (eqb function 0x0008) (controlStated s b) u e .1) .0) .1
+    lies s (b .setup) (tested (partAllowed s (b .setup)) _ u (tested (eqb function 0x0008) (controlStated s b) u e .1) .0) .1
 stated-small s function (structure.IsochTransfer b) u e =
-    allowed-lies s (b .list) (tested (partAllowed s (b .list)) _ u (tested (eqb function 0x000A) (isochStated s b) u e .1) .0) .1
+    lies s (b .list) (tested (partAllowed s (b .list)) _ u (tested (eqb function 0x000A) (isochStated s b) u e .1) .0) .1
 
 incoming-small : (s : List ℕ) (b : TransferInFields) (t : Stated) → statedOf s (b .urb .function) (b .urb .structure) ≡ t → incomingBy b t ≡ true → Small (b .urb .structure)
 incoming-small s b Nothing e q = let z : _≡_ {A = ℕ} 0 1 = cc in absurd (omega arith)
@@ -84,7 +84,7 @@ out-small s i b e =
     outgoing-small s b t refl (both (partAllowed s (b .output)) (outgoingBy b t) k .1)
 
 result-small : (s : List ℕ) (i : ℕ) (b : UrbResultFields) → resultGiven s i b ≡ true → b .rest .size ≤ 65535
-result-small s i b e = allowed-lies s (b .rest) (both (interfaceAllowed i) (partAllowed s (b .rest)) e .1) .1
+result-small s i b e = lies s (b .rest) (both (interfaceAllowed i) (partAllowed s (b .rest)) e .1) .1
 
 pub given-small : (s : List ℕ) (f : Fields) → givenIn s f ≡ true → SmallFields f
 unfolding givenIn

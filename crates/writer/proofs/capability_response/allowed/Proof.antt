@@ -8,6 +8,6 @@ pub allowed-spec : {M : Type 1} → statement M
 allowed-spec =
     tie.close
     (tie.spec
-    (λ c. rw (ne-eqb _ 1 (c .if1 .taken)))
+    (λ c. rw (ne-eqb (c .before .before .args .b .capability) 1 (c .if1 .taken)))
     (search needs)
-    (λ c. rw (eq-eqb _ 1 (c .before .if1 .left)) (c .is-success .ensures)))
+    (λ c. rw (eq-eqb (c .before .before .before .args .b .capability) 1 (c .before .if1 .left)) (c .is-success .ensures)))

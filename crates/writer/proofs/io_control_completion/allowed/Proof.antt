@@ -1,6 +1,6 @@
 -- `writer::io_control_completion::allowed` meets its contract: its interface and its part are allowed.
+use Rattle.writer.proofs.Calls.{failed, held}
 use borrow.Author.Needs.{needs}
-use borrow.Author.Tests.{not-true, not-false}
 use Rattle.writer.proofs.io_control_completion.allowed.Statement.{statement}
 use Rattle.writer.proofs.io_control_completion.allowed.Tie as tie
 
@@ -9,6 +9,6 @@ allowed-spec =
     tie.close
     (tie.spec
     (search needs)
-    (λ c. rw (← (c .before .interface-allowed .ensures), not-true (c .before .interface-allowed .result) (c .if1 .taken)))
+    (λ c. rw (failed (c .before .interface-allowed .ensures) (c .if1 .taken)))
     (search needs)
-    (λ c. rw (← (c .before .before .interface-allowed .ensures), not-false (c .before .before .interface-allowed .result) (c .before .if1 .left)) (c .allowed .ensures)))
+    (λ c. rw (held (c .before .before .interface-allowed .ensures) (c .before .if1 .left)) (c .allowed .ensures)))

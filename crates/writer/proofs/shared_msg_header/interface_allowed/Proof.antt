@@ -7,5 +7,5 @@ pub interface-allowed-spec : {M : Type 1} → statement M
 interface-allowed-spec =
     tie.close
     (tie.spec
-    (λ c. rw (lt-leb 4 _ (c .if1 .taken)))
-    (λ c. rw (le-leb 4 _ (c .if1 .left))))
+    (λ c. rw (lt-leb 4 (c .before .args .interface) (c .if1 .taken)))
+    (λ c. rw (le-leb 4 (c .before .args .interface) (c .if1 .left))))

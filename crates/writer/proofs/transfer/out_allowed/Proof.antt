@@ -1,7 +1,8 @@
 -- `writer::transfer::out_allowed` meets its contract: at each `return` the tests and calls before it say which case of the definition holds.
 use Rattle.writer.specs.Transfer.{transferOutGiven}
+use Rattle.writer.proofs.Calls.{failed, held}
 use borrow.Author.Needs.{needs}
-use borrow.Author.Tests.{lt-ltb, le-ltb, not-true, not-false}
+use borrow.Author.Tests.{lt-ltb, le-ltb}
 use Rattle.writer.proofs.transfer.out_allowed.Statement.{statement}
 use Rattle.writer.proofs.transfer.out_allowed.Tie as tie
 
@@ -11,14 +12,14 @@ out-allowed-spec =
     tie.close
     (tie.spec
     (search needs)
-    (λ c. rw (← (c .before .interface-allowed .ensures), not-true (c .before .interface-allowed .result) (c .if1 .taken)))
+    (λ c. rw (failed (c .before .interface-allowed .ensures) (c .if1 .taken)))
     (search needs)
-    (λ c. rw (← (c .before .before .before .interface-allowed .ensures), not-false (c .before .before .before .interface-allowed .result) (c .before .before .if1 .left), ← (c .before .number .ensures), le-ltb _ 0x8000_0000 (c .if2 .taken)))
+    (λ c. rw (held (c .before .before .before .interface-allowed .ensures) (c .before .before .if1 .left), ← (c .before .number .ensures), le-ltb (c .before .number .result) 0x8000_0000 (c .if2 .taken)))
     (search needs)
-    (λ c. rw (← (c .before .before .before .before .before .interface-allowed .ensures), not-false (c .before .before .before .before .before .interface-allowed .result) (c .before .before .before .before .if1 .left), ← (c .before .before .before .number .ensures), lt-ltb _ 0x8000_0000 (c .before .before .if2 .left), ← (c .before .allowed .ensures), not-true (c .before .allowed .result) (c .if3 .taken)))
-    (search needs)
-    (search needs)
+    (λ c. rw (held (c .before .before .before .before .before .interface-allowed .ensures) (c .before .before .before .before .if1 .left), ← (c .before .before .before .number .ensures), lt-ltb (c .before .before .before .number .result) 0x8000_0000 (c .before .before .if2 .left), failed (c .before .allowed .ensures) (c .if3 .taken)))
     (search needs)
     (search needs)
-    (λ c. rw (← (c .before .before .before .before .before .before .before .before .interface-allowed .ensures), not-false (c .before .before .before .before .before .before .before .before .interface-allowed .result) (c .before .before .before .before .before .before .before .if1 .left), ← (c .before .before .before .before .before .before .number .ensures), lt-ltb _ 0x8000_0000 (c .before .before .before .before .before .if2 .left), ← (c .before .before .before .before .allowed .ensures), not-false (c .before .before .before .before .allowed .result) (c .before .before .before .if3 .left), ← (c .before .before .state .ensures), c .enum-told .given .1))
-    (λ c. rw (← (c .before .before .before .before .before .before .before .before .before .before .interface-allowed .ensures), not-false (c .before .before .before .before .before .before .before .before .before .before .interface-allowed .result) (c .before .before .before .before .before .before .before .before .before .if1 .left), ← (c .before .before .before .before .before .before .before .before .number .ensures), lt-ltb _ 0x8000_0000 (c .before .before .before .before .before .before .before .if2 .left), ← (c .before .before .before .before .before .before .allowed .ensures), not-false (c .before .before .before .before .before .before .allowed .result) (c .before .before .before .before .before .if3 .left), ← (c .before .before .before .before .state .ensures), c .before .before .urb .given .1) (c .outgoing .ensures)))
+    (search needs)
+    (search needs)
+    (λ c. rw (held (c .before .before .before .before .before .before .before .before .interface-allowed .ensures) (c .before .before .before .before .before .before .before .if1 .left), ← (c .before .before .before .before .before .before .number .ensures), lt-ltb (c .before .before .before .before .before .before .number .result) 0x8000_0000 (c .before .before .before .before .before .if2 .left), held (c .before .before .before .before .allowed .ensures) (c .before .before .before .if3 .left), ← (c .before .before .state .ensures), c .enum-told .given .1))
+    (λ c. rw (held (c .before .before .before .before .before .before .before .before .before .before .interface-allowed .ensures) (c .before .before .before .before .before .before .before .before .before .if1 .left), ← (c .before .before .before .before .before .before .before .before .number .ensures), lt-ltb (c .before .before .before .before .before .before .before .before .number .result) 0x8000_0000 (c .before .before .before .before .before .before .before .if2 .left), held (c .before .before .before .before .before .before .allowed .ensures) (c .before .before .before .before .before .if3 .left), ← (c .before .before .before .before .state .ensures), c .before .before .urb .given .1) (c .outgoing .ensures)))

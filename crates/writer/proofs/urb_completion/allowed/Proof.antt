@@ -1,6 +1,6 @@
 -- `writer::urb_completion::allowed` meets its contract: its result and its output are allowed, and the output is not empty.
+use Rattle.writer.proofs.Calls.{failed, held}
 use borrow.Author.Needs.{needs}
-use borrow.Author.Tests.{not-true, not-false}
 use Rattle.writer.proofs.urb_completion.allowed.Statement.{statement}
 use Rattle.writer.proofs.urb_completion.allowed.Tie as tie
 
@@ -9,7 +9,7 @@ allowed-spec =
     tie.close
     (tie.spec
     (search needs)
-    (λ c. rw (← (c .before .result-allowed .ensures), not-true (c .before .result-allowed .result) (c .if1 .taken)))
+    (λ c. rw (failed (c .before .result-allowed .ensures) (c .if1 .taken)))
     (search needs)
-    (λ c. rw (← (c .before .before .before .before .result-allowed .ensures), not-false (c .before .before .before .before .result-allowed .result) (c .before .before .before .if1 .left), ← (c .before .allowed .ensures), not-true (c .before .allowed .result) (c .if2 .taken)))
-    (λ c. rw (← (c .before .before .before .before .before .result-allowed .ensures), not-false (c .before .before .before .before .before .result-allowed .result) (c .before .before .before .before .if1 .left), ← (c .before .before .allowed .ensures), not-false (c .before .before .allowed .result) (c .before .if2 .left))))
+    (λ c. rw (held (c .before .before .before .before .result-allowed .ensures) (c .before .before .before .if1 .left), failed (c .before .allowed .ensures) (c .if2 .taken)))
+    (λ c. rw (held (c .before .before .before .before .before .result-allowed .ensures) (c .before .before .before .before .if1 .left), held (c .before .before .allowed .ensures) (c .before .if2 .left))))
