@@ -50,10 +50,10 @@ unfolding bufferOf
 buffer-padded s ps buf = rw (encode-padded s ps, written-padded s (length buf) ps)
 
 -- the six pieces of a structure one by one, between those of a transfer request
-abbrev sixth : Structure → ℕ → Piece
-sixth x k = getD (structurePieces x) k Nothing
+abbrev pieceAt : Structure → ℕ → Piece
+pieceAt x k = getD (structurePieces x) k Nothing
 
-pub structure-padded : {a b c d e f g h : Piece} (x : Structure) → (a ∷ b ∷ c ∷ d ∷ e ∷ f ∷ sixth x 0 ∷ sixth x 1 ∷ sixth x 2 ∷ sixth x 3 ∷ sixth x 4 ∷ sixth x 5 ∷ g ∷ h ∷ Nothing ∷ Nothing ∷ Nothing ∷ Nothing ∷ Nothing ∷ Nothing ∷ []) ≡ padded (a ∷ b ∷ c ∷ d ∷ e ∷ f ∷ (structurePieces x ++ (g ∷ h ∷ [])))
+pub structure-padded : {a b c d e f g h : Piece} (x : Structure) → (a ∷ b ∷ c ∷ d ∷ e ∷ f ∷ pieceAt x 0 ∷ pieceAt x 1 ∷ pieceAt x 2 ∷ pieceAt x 3 ∷ pieceAt x 4 ∷ pieceAt x 5 ∷ g ∷ h ∷ Nothing ∷ Nothing ∷ Nothing ∷ Nothing ∷ Nothing ∷ Nothing ∷ []) ≡ padded (a ∷ b ∷ c ∷ d ∷ e ∷ f ∷ (structurePieces x ++ (g ∷ h ∷ [])))
 structure-padded (structure.SelectConfiguration x) = refl
 structure-padded (structure.SelectInterface x) = refl
 structure-padded structure.GetCurrentFrameNumber = refl
