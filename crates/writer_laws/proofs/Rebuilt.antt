@@ -105,60 +105,59 @@ module _ (m : List ℕ) (long : 12 ≤ length m) (fits : length m ≤ 65535) whe
   pub capability-request-rebuilt : Headed 0 0 0x100 m → Asks kind.CapabilityRequest (asksBy (capabilityRequestReading (capabilityRequestOf m)))
   unfolding capabilityRequestOf givenIn piecesOf fieldsIn cutsFrom spansOf
   capability-request-rebuilt hd =
-      field-by capabilityRequest.Fails (λ r. Asks kind.CapabilityRequest (asksBy (capabilityRequestReading r))) (λ f. refused) m 12 4 _ λ a. ended-by capabilityRequest.Fails (λ r. Asks kind.CapabilityRequest (asksBy (capabilityRequestReading r))) (λ f. refused) m 16 _ λ z. 
+      field-by capabilityRequest.Fails (λ r. Asks kind.CapabilityRequest (asksBy (capabilityRequestReading r))) (λ f. refused) m 12 4 _ λ a. ended-by capabilityRequest.Fails (λ r. Asks kind.CapabilityRequest (asksBy (capabilityRequestReading r))) (λ f. refused) m 16 _ λ z.
       λ e. record { given = asked _ _ e; pieces = head-cut 0 0 0x100 m _ hd; spans = omega arith }
 
   pub capability-response-rebuilt : Headed 0 0 (wordAt m 8) m → Asks kind.CapabilityResponse (asksBy (capabilityResponseReading (capabilityResponseOf m)))
   unfolding capabilityResponseOf givenIn piecesOf fieldsIn cutsFrom spansOf
   capability-response-rebuilt hd =
-      field-by capabilityResponse.Fails (λ r. Asks kind.CapabilityResponse (asksBy (capabilityResponseReading r))) (λ f. refused) m 8 4 _ λ a. field-by capabilityResponse.Fails (λ r. Asks kind.CapabilityResponse (asksBy (capabilityResponseReading r))) (λ f. refused) m 12 4 _ λ b. ended-by capabilityResponse.Fails (λ r. Asks kind.CapabilityResponse (asksBy (capabilityResponseReading r))) (λ f. refused) m 16 _ λ z. 
+      field-by capabilityResponse.Fails (λ r. Asks kind.CapabilityResponse (asksBy (capabilityResponseReading r))) (λ f. refused) m 8 4 _ λ a. field-by capabilityResponse.Fails (λ r. Asks kind.CapabilityResponse (asksBy (capabilityResponseReading r))) (λ f. refused) m 12 4 _ λ b. ended-by capabilityResponse.Fails (λ r. Asks kind.CapabilityResponse (asksBy (capabilityResponseReading r))) (λ f. refused) m 16 _ λ z.
       λ e. record { given = asked _ _ e; pieces = head-cut 0 0 (wordAt m 8) m _ hd; spans = omega arith }
 
   pub server-created-rebuilt : Headed 3 1 0x100 m → Asks kind.ChannelCreatedByServer (asksBy (channelCreatedReading (channelCreatedOf m)))
   unfolding channelCreatedOf givenIn piecesOf fieldsIn cutsFrom spansOf
   server-created-rebuilt hd =
-      field-by channelCreated.Fails (λ r. Asks kind.ChannelCreatedByServer (asksBy (channelCreatedReading r))) (λ f. refused) m 12 4 _ λ a. field-by channelCreated.Fails (λ r. Asks kind.ChannelCreatedByServer (asksBy (channelCreatedReading r))) (λ f. refused) m 16 4 _ λ b. field-by channelCreated.Fails (λ r. Asks kind.ChannelCreatedByServer (asksBy (channelCreatedReading r))) (λ f. refused) m 20 4 _ λ c. ended-by channelCreated.Fails (λ r. Asks kind.ChannelCreatedByServer (asksBy (channelCreatedReading r))) (λ f. refused) m 24 _ λ z. 
+      field-by channelCreated.Fails (λ r. Asks kind.ChannelCreatedByServer (asksBy (channelCreatedReading r))) (λ f. refused) m 12 4 _ λ a. field-by channelCreated.Fails (λ r. Asks kind.ChannelCreatedByServer (asksBy (channelCreatedReading r))) (λ f. refused) m 16 4 _ λ b. field-by channelCreated.Fails (λ r. Asks kind.ChannelCreatedByServer (asksBy (channelCreatedReading r))) (λ f. refused) m 20 4 _ λ c. ended-by channelCreated.Fails (λ r. Asks kind.ChannelCreatedByServer (asksBy (channelCreatedReading r))) (λ f. refused) m 24 _ λ z.
       λ e. record { given = asked _ _ e; pieces = head-cut 3 1 0x100 m _ hd; spans = omega arith }
 
   pub client-created-rebuilt : Headed 2 1 0x100 m → Asks kind.ChannelCreatedByClient (asksBy (channelCreatedReading (channelCreatedOf m)))
   unfolding channelCreatedOf givenIn piecesOf fieldsIn cutsFrom spansOf
   client-created-rebuilt hd =
-      field-by channelCreated.Fails (λ r. Asks kind.ChannelCreatedByClient (asksBy (channelCreatedReading r))) (λ f. refused) m 12 4 _ λ a. field-by channelCreated.Fails (λ r. Asks kind.ChannelCreatedByClient (asksBy (channelCreatedReading r))) (λ f. refused) m 16 4 _ λ b. field-by channelCreated.Fails (λ r. Asks kind.ChannelCreatedByClient (asksBy (channelCreatedReading r))) (λ f. refused) m 20 4 _ λ c. ended-by channelCreated.Fails (λ r. Asks kind.ChannelCreatedByClient (asksBy (channelCreatedReading r))) (λ f. refused) m 24 _ λ z. 
+      field-by channelCreated.Fails (λ r. Asks kind.ChannelCreatedByClient (asksBy (channelCreatedReading r))) (λ f. refused) m 12 4 _ λ a. field-by channelCreated.Fails (λ r. Asks kind.ChannelCreatedByClient (asksBy (channelCreatedReading r))) (λ f. refused) m 16 4 _ λ b. field-by channelCreated.Fails (λ r. Asks kind.ChannelCreatedByClient (asksBy (channelCreatedReading r))) (λ f. refused) m 20 4 _ λ c. ended-by channelCreated.Fails (λ r. Asks kind.ChannelCreatedByClient (asksBy (channelCreatedReading r))) (λ f. refused) m 24 _ λ z.
       λ e. record { given = asked _ _ e; pieces = head-cut 2 1 0x100 m _ hd; spans = omega arith }
 
   pub virtual-channel-rebuilt : Headed 1 1 0x100 m → Asks kind.AddVirtualChannel (asksBy (addVirtualChannelReading (addVirtualChannelOf m)))
   unfolding addVirtualChannelOf givenIn piecesOf fieldsIn cutsFrom spansOf
   virtual-channel-rebuilt hd =
-      ended-by addVirtualChannel.Fails (λ r. Asks kind.AddVirtualChannel (asksBy (addVirtualChannelReading r))) (λ f. refused) m 12 _ λ z. 
+      ended-by addVirtualChannel.Fails (λ r. Asks kind.AddVirtualChannel (asksBy (addVirtualChannelReading r))) (λ f. refused) m 12 _ λ z.
       λ e. record { given = refl; pieces = head-cut 1 1 0x100 m _ hd; spans = omega arith }
 
   pub cancel-rebuilt : Headed i 1 0x100 m → interfaceAllowed i ≡ true → Asks kind.CancelRequest (asksBy (cancelRequestReading (cancelRequestOf m)))
   unfolding cancelRequestOf givenIn piecesOf fieldsIn cutsFrom spansOf
   cancel-rebuilt hd known =
-      field-by cancelRequest.Fails (λ r. Asks kind.CancelRequest (asksBy (cancelRequestReading r))) (λ f. refused) m 12 4 _ λ a. ended-by cancelRequest.Fails (λ r. Asks kind.CancelRequest (asksBy (cancelRequestReading r))) (λ f. refused) m 16 _ λ z. 
+      field-by cancelRequest.Fails (λ r. Asks kind.CancelRequest (asksBy (cancelRequestReading r))) (λ f. refused) m 12 4 _ λ a. ended-by cancelRequest.Fails (λ r. Asks kind.CancelRequest (asksBy (cancelRequestReading r))) (λ f. refused) m 16 _ λ z.
       λ e. record { given = known; pieces = head-cut i 1 0x100 m _ hd; spans = omega arith }
 
   pub retract-rebuilt : Headed i 1 0x107 m → interfaceAllowed i ≡ true → Asks kind.RetractDevice (asksBy (retractDeviceReading (retractDeviceOf m)))
   unfolding retractDeviceOf givenIn piecesOf fieldsIn cutsFrom spansOf
   retract-rebuilt hd known =
-      field-by retractDevice.Fails (λ r. Asks kind.RetractDevice (asksBy (retractDeviceReading r))) (λ f. refused) m 12 4 _ λ a. ended-by retractDevice.Fails (λ r. Asks kind.RetractDevice (asksBy (retractDeviceReading r))) (λ f. refused) m 16 _ λ z. 
+      field-by retractDevice.Fails (λ r. Asks kind.RetractDevice (asksBy (retractDeviceReading r))) (λ f. refused) m 12 4 _ λ a. ended-by retractDevice.Fails (λ r. Asks kind.RetractDevice (asksBy (retractDeviceReading r))) (λ f. refused) m 16 _ λ z.
       λ e. record { given = both known (asked _ _ e); pieces = head-cut i 1 0x107 m _ hd; spans = omega arith }
 
   pub io-control-rebuilt : Headed i 1 0x102 m → interfaceAllowed i ≡ true → Asks kind.IoControl (asksBy (ioControlReading (ioControlOf m)))
   unfolding ioControlOf ioControlWith givenIn piecesOf fieldsIn cutsFrom spansOf
   io-control-rebuilt hd known =
-      field-by ioControl.Fails (λ r. Asks kind.IoControl (asksBy (ioControlReading r))) (λ f. refused) m 12 4 _ λ a. field-by ioControl.Fails (λ r. Asks kind.IoControl (asksBy (ioControlReading r))) (λ f. refused) m 16 4 _ λ b. field-by ioControl.Fails (λ r. Asks kind.IoControl (asksBy (ioControlReading r))) (λ f. refused) m 20 (wordAt m 16) _ λ c. field-by ioControl.Fails (λ r. Asks kind.IoControl (asksBy (ioControlReading r))) (λ f. refused) m (20 + wordAt m 16) 4 _ λ d. field-by ioControl.Fails (λ r. Asks kind.IoControl (asksBy (ioControlReading r))) (λ f. refused) m (20 + wordAt m 16 + 4) 4 _ λ g. ended-by ioControl.Fails (λ r. Asks kind.IoControl (asksBy (ioControlReading r))) (λ f. refused) m (20 + wordAt m 16 + 8) _ λ z. 
+      field-by ioControl.Fails (λ r. Asks kind.IoControl (asksBy (ioControlReading r))) (λ f. refused) m 12 4 _ λ a. field-by ioControl.Fails (λ r. Asks kind.IoControl (asksBy (ioControlReading r))) (λ f. refused) m 16 4 _ λ b. field-by ioControl.Fails (λ r. Asks kind.IoControl (asksBy (ioControlReading r))) (λ f. refused) m 20 (wordAt m 16) _ λ c. field-by ioControl.Fails (λ r. Asks kind.IoControl (asksBy (ioControlReading r))) (λ f. refused) m (20 + wordAt m 16) 4 _ λ d. field-by ioControl.Fails (λ r. Asks kind.IoControl (asksBy (ioControlReading r))) (λ f. refused) m (20 + wordAt m 16 + 4) 4 _ λ g. ended-by ioControl.Fails (λ r. Asks kind.IoControl (asksBy (ioControlReading r))) (λ f. refused) m (20 + wordAt m 16 + 8) _ λ z.
       λ e. record { given = both known (part-in m _ (omega arith) fits); pieces = head-cut i 1 0x102 m _ hd; spans = omega arith }
 
   pub internal-rebuilt : Headed i 1 0x103 m → interfaceAllowed i ≡ true → Asks kind.InternalIoControl (asksBy (ioControlReading (ioControlOf m)))
   unfolding ioControlOf ioControlWith givenIn piecesOf fieldsIn cutsFrom spansOf
   internal-rebuilt hd known =
-      field-by ioControl.Fails (λ r. Asks kind.InternalIoControl (asksBy (ioControlReading r))) (λ f. refused) m 12 4 _ λ a. field-by ioControl.Fails (λ r. Asks kind.InternalIoControl (asksBy (ioControlReading r))) (λ f. refused) m 16 4 _ λ b. field-by ioControl.Fails (λ r. Asks kind.InternalIoControl (asksBy (ioControlReading r))) (λ f. refused) m 20 (wordAt m 16) _ λ c. field-by ioControl.Fails (λ r. Asks kind.InternalIoControl (asksBy (ioControlReading r))) (λ f. refused) m (20 + wordAt m 16) 4 _ λ d. field-by ioControl.Fails (λ r. Asks kind.InternalIoControl (asksBy (ioControlReading r))) (λ f. refused) m (20 + wordAt m 16 + 4) 4 _ λ g. ended-by ioControl.Fails (λ r. Asks kind.InternalIoControl (asksBy (ioControlReading r))) (λ f. refused) m (20 + wordAt m 16 + 8) _ λ z. 
+      field-by ioControl.Fails (λ r. Asks kind.InternalIoControl (asksBy (ioControlReading r))) (λ f. refused) m 12 4 _ λ a. field-by ioControl.Fails (λ r. Asks kind.InternalIoControl (asksBy (ioControlReading r))) (λ f. refused) m 16 4 _ λ b. field-by ioControl.Fails (λ r. Asks kind.InternalIoControl (asksBy (ioControlReading r))) (λ f. refused) m 20 (wordAt m 16) _ λ c. field-by ioControl.Fails (λ r. Asks kind.InternalIoControl (asksBy (ioControlReading r))) (λ f. refused) m (20 + wordAt m 16) 4 _ λ d. field-by ioControl.Fails (λ r. Asks kind.InternalIoControl (asksBy (ioControlReading r))) (λ f. refused) m (20 + wordAt m 16 + 4) 4 _ λ g. ended-by ioControl.Fails (λ r. Asks kind.InternalIoControl (asksBy (ioControlReading r))) (λ f. refused) m (20 + wordAt m 16 + 8) _ λ z.
       λ e. record { given = both known (part-in m _ (omega arith) fits); pieces = head-cut i 1 0x103 m _ hd; spans = omega arith }
 
   pub io-completion-rebuilt : Headed i 1 0x100 m → interfaceAllowed i ≡ true → Asks kind.IoControlCompletion (asksBy (ioControlCompletionReading (ioControlCompletionOf m)))
   unfolding ioControlCompletionOf ioControlCompletionWith givenIn piecesOf fieldsIn cutsFrom spansOf
   io-completion-rebuilt hd known =
-      field-by ioControlCompletion.Fails (λ r. Asks kind.IoControlCompletion (asksBy (ioControlCompletionReading r))) (λ f. refused) m 12 4 _ λ a. field-by ioControlCompletion.Fails (λ r. Asks kind.IoControlCompletion (asksBy (ioControlCompletionReading r))) (λ f. refused) m 16 4 _ λ b. field-by ioControlCompletion.Fails (λ r. Asks kind.IoControlCompletion (asksBy (ioControlCompletionReading r))) (λ f. refused) m 20 4 _ λ c. field-by ioControlCompletion.Fails (λ r. Asks kind.IoControlCompletion (asksBy (ioControlCompletionReading r))) (λ f. refused) m 24 4 _ λ d. field-by ioControlCompletion.Fails (λ r. Asks kind.IoControlCompletion (asksBy (ioControlCompletionReading r))) (λ f. refused) m 28 (wordAt m 24) _ λ g. ended-by ioControlCompletion.Fails (λ r. Asks kind.IoControlCompletion (asksBy (ioControlCompletionReading r))) (λ f. refused) m (28 + wordAt m 24) _ λ z. 
+      field-by ioControlCompletion.Fails (λ r. Asks kind.IoControlCompletion (asksBy (ioControlCompletionReading r))) (λ f. refused) m 12 4 _ λ a. field-by ioControlCompletion.Fails (λ r. Asks kind.IoControlCompletion (asksBy (ioControlCompletionReading r))) (λ f. refused) m 16 4 _ λ b. field-by ioControlCompletion.Fails (λ r. Asks kind.IoControlCompletion (asksBy (ioControlCompletionReading r))) (λ f. refused) m 20 4 _ λ c. field-by ioControlCompletion.Fails (λ r. Asks kind.IoControlCompletion (asksBy (ioControlCompletionReading r))) (λ f. refused) m 24 4 _ λ d. field-by ioControlCompletion.Fails (λ r. Asks kind.IoControlCompletion (asksBy (ioControlCompletionReading r))) (λ f. refused) m 28 (wordAt m 24) _ λ g. ended-by ioControlCompletion.Fails (λ r. Asks kind.IoControlCompletion (asksBy (ioControlCompletionReading r))) (λ f. refused) m (28 + wordAt m 24) _ λ z.
       λ e. record { given = both known (part-in m _ (omega arith) fits); pieces = head-cut i 1 0x100 m _ hd; spans = omega arith }
-
