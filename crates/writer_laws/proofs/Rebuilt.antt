@@ -12,7 +12,8 @@ use Rattle.words.specs.Layout.{left}
 use Rattle.words.specs.declared.layout.Part.{Part}
 use Rattle.words.specs.declared.layout.Fault.{Fault}
 use Rattle.words.proofs.Steps.{either, field-by, agrees-by, atLeast-by, ended-by, filled-by}
-use Rattle.header.specs.Ids.{interfaceIn, messageIn}
+use Rattle.header.specs.Ids.{assignable, interfaceIn, messageIn}
+use Rattle.header.specs.declared.ids.Known.the-variants as known
 use Rattle.header.specs.declared.ids.MessageId.{MessageId}
 use Rattle.answers.specs.declared.kind.Kind.{Kind}
 use Rattle.answers.specs.declared.kind.Kind.the-variants as kind
@@ -28,7 +29,7 @@ use Rattle.wire.specs.IoControlCompletion.{ioControlCompletionWith, ioControlCo
 use Rattle.wire.specs.TsUrbResult.{completedOf, completionWith, completionOf}
 use Rattle.wire.specs.UrbCompletion.{withOutputOf, withOutputFrom, urbCompletionOf, urbCompletionAllowed}
 use Rattle.wire.specs.UrbCompletionNoData.{noDataFrom, urbCompletionNoDataOf}
-use Rattle.wire.specs.Message.{asksBy, asksWith}
+use Rattle.wire.specs.Message.{asksBy, asksWith, emptyPart}
 use Rattle.wire.specs.Reading.{capabilityRequestReading, capabilityResponseReading, channelCreatedReading, addVirtualChannelReading, cancelRequestReading, registerRequestCallbackReading, ioControlReading, retractDeviceReading, ioControlCompletionReading, urbCompletionReading, urbCompletionNoDataReading}
 use Rattle.wire.specs.declared.capability_request.CapabilityRequestRead.{CapabilityRequestRead}
 use Rattle.wire.specs.declared.capability_request.CapabilityRequestRead.the-variants as capabilityRequest
@@ -55,9 +56,9 @@ use Rattle.wire.specs.declared.urb_completion.UrbCompletionRead.the-variants as
 use Rattle.wire.specs.declared.urb_completion_no_data.UrbCompletionNoDataRead.{UrbCompletionNoDataRead}
 use Rattle.wire.specs.declared.urb_completion_no_data.UrbCompletionNoDataRead.the-variants as urbCompletionNoData
 use Rattle.wire.specs.declared.message.Asked.{Asked}
-use Rattle.wire.specs.declared.message.Asked.the-variants.{Value}
+use Rattle.wire.specs.declared.message.Asked.the-variants.{Value, Callback}
 use Rattle.pieces.specs.declared.piece.Piece.{Piece}
-use Rattle.pieces.specs.declared.piece.Piece.the-variants.{Word}
+use Rattle.pieces.specs.declared.piece.Piece.the-variants.{Word, Run}
 use Rattle.writer.specs.SharedMsgHeader.{head, interfaceAllowed}
 use Rattle.writer.specs.Part.{partAllowed}
 use Rattle.writer.specs.Message.{givenIn, piecesOf}
@@ -94,6 +95,32 @@ both p q = rw (p, q)
 -- a part that lies in a message lies in the lent bytes of it
 pub part-in : (m : List ℕ) (p : Part) → p .start + p .size ≤ length m → length m ≤ 65535 → partAllowed m p ≡ true
 part-in m p h l = rw (le-ltb (length m) (p .start) (omega arith), le-ltb (length m - p .start) (p .size) (omega arith), le-leb (p .size) 65535 (omega arith))
+
+-- sums of places, each by itself
+behind-result : (n l : ℕ) → 8 ≤ n → n ≤ l - 20 → 28 + (n - 8) ≤ l
+behind-result n l h k = omega arith
+
+add-zero : (n : ℕ) → n + 0 ≡ n
+add-zero n = omega arith
+
+reaches : (at l : ℕ) → 4 ≤ l - at → at + 4 ≤ l
+reaches at l h = omega arith
+
+holds : (at size l : ℕ) → at ≤ l → size ≤ l - at → at + size ≤ l
+holds at size l h k = omega arith
+
+result-spans : (n size l : ℕ) → 8 ≤ n → 20 + n + 8 + size ≤ l → l ≤ 20 + n + 8 + size → 4 + (4 + (4 + (4 + (4 + (4 + (4 + (n - 8 + (4 + (4 + (size + 0)))))))))) ≡ l
+result-spans n size l h a b = omega arith
+
+-- the pieces of a URB completion behind its header, by the places that they are computed at and by those of the layout
+completion-cut : (m : List ℕ) (n : ℕ) (size : ℕ) → 8 ≤ n → halfAt m 20 ≡ n → (last : ℕ → List Piece)
+    → Word (wordAt m 12) ∷ Word (8 + (n - 8)) ∷ Word (8 + (n - 8)) ∷ Word (wordAt m 24) ∷ Run (record { start = 28; size = n - 8 }) ∷ Word (wordAt m (20 + n)) ∷ Word (wordAt m (20 + n + 4)) ∷ last (20 + n + 8)
+    ≡ Word (wordAt m 12) ∷ Word n ∷ Word (halfAt m 20) ∷ Word (wordAt m 24) ∷ Run (record { start = 28; size = n - 8 }) ∷ Word (wordAt m (28 + (n - 8))) ∷ Word (wordAt m (28 + (n - 8) + 4)) ∷ last (28 + (n - 8) + 4 + 4)
+completion-cut m n size h g last =
+    let a : 8 + (n - 8) ≡ n = omega arith in
+    let b : 28 + (n - 8) ≡ 20 + n = omega arith in
+    let c : 20 + n + 4 + 4 ≡ 20 + n + 8 = omega arith in
+    rw (a, g, b, c)
 
 module _ (m : List ℕ) (long : 12 ≤ length m) (fits : length m ≤ 65535) where
   abbrev i : ℕ
@@ -161,3 +188,30 @@ module _ (m : List ℕ) (long : 12 ≤ length m) (fits : length m ≤ 65535) whe
   io-completion-rebuilt hd known =
       field-by ioControlCompletion.Fails (λ r. Asks kind.IoControlCompletion (asksBy (ioControlCompletionReading r))) (λ f. refused) m 12 4 _ λ a. field-by ioControlCompletion.Fails (λ r. Asks kind.IoControlCompletion (asksBy (ioControlCompletionReading r))) (λ f. refused) m 16 4 _ λ b. field-by ioControlCompletion.Fails (λ r. Asks kind.IoControlCompletion (asksBy (ioControlCompletionReading r))) (λ f. refused) m 20 4 _ λ c. field-by ioControlCompletion.Fails (λ r. Asks kind.IoControlCompletion (asksBy (ioControlCompletionReading r))) (λ f. refused) m 24 4 _ λ d. field-by ioControlCompletion.Fails (λ r. Asks kind.IoControlCompletion (asksBy (ioControlCompletionReading r))) (λ f. refused) m 28 (wordAt m 24) _ λ g. ended-by ioControlCompletion.Fails (λ r. Asks kind.IoControlCompletion (asksBy (ioControlCompletionReading r))) (λ f. refused) m (28 + wordAt m 24) _ λ z.
       λ e. record { given = both known (part-in m _ (omega arith) fits); pieces = head-cut i 1 0x100 m _ hd; spans = omega arith }
+
+  pub callback-rebuilt : Headed i 1 0x101 m → interfaceAllowed i ≡ true → Asks kind.RegisterRequestCallback (asksBy (registerRequestCallbackReading (registerRequestCallbackOf m)))
+  unfolding registerRequestCallbackOf givenIn piecesOf fieldsIn cutsFrom spansOf
+  callback-rebuilt hd at =
+      field-by registerRequestCallback.Fails (λ r. Asks kind.RegisterRequestCallback (asksBy (registerRequestCallbackReading r))) (λ f. refused) m 12 4 _ λ a. either (λ r. Asks kind.RegisterRequestCallback (asksBy (registerRequestCallbackReading r))) (eqb (wordAt m 12) 0) _ _
+      (λ t. ended-by registerRequestCallback.Fails (λ r. Asks kind.RegisterRequestCallback (asksBy (registerRequestCallbackReading r))) (λ f. refused) m 16 _ λ z. λ e. record { given = rw t (both at t); pieces = rw t (head-cut i 1 0x101 m _ hd); spans = rw t (omega arith) })
+      (λ t. field-by registerRequestCallback.Fails (λ r. Asks kind.RegisterRequestCallback (asksBy (registerRequestCallbackReading r))) (λ f. refused) m 16 4 _ λ b. ended-by registerRequestCallback.Fails (λ r. Asks kind.RegisterRequestCallback (asksBy (registerRequestCallbackReading r))) (λ f. refused) m 20 _ λ z. λ e. record { given = rw t (both at (rw t (asked (assignable (interfaceIn (wordAt m 16))) (Callback (known.Is (interfaceIn (wordAt m 16)))) e))); pieces = rw t (head-cut i 1 0x101 m _ hd); spans = rw t (omega arith) })
+
+  pub urb-completion-rebuilt : Headed i 1 0x101 m → interfaceAllowed i ≡ true → Asks kind.UrbCompletion (asksBy (urbCompletionReading (urbCompletionOf m)))
+  unfolding urbCompletionOf withOutputOf completionOf completionWith completedOf givenIn piecesOf fieldsIn urbCompletionIn noDataIn cutsFrom spansOf
+  urb-completion-rebuilt hd known =
+      field-by completion.Fails (λ r. Asks kind.UrbCompletion (asksBy (urbCompletionReading (withOutputFrom m r)))) (λ f. refused) m 12 4 _ λ a. field-by completion.Fails (λ r. Asks kind.UrbCompletion (asksBy (urbCompletionReading (withOutputFrom m r)))) (λ f. refused) m 16 4 _ λ b. atLeast-by completion.Fails (λ r. Asks kind.UrbCompletion (asksBy (urbCompletionReading (withOutputFrom m r)))) (λ f. refused) 8 (wordAt m 16) 16 _ λ c. field-by completion.Fails (λ r. Asks kind.UrbCompletion (asksBy (urbCompletionReading (withOutputFrom m r)))) (λ f. refused) m 20 (wordAt m 16) _ λ d.
+      agrees-by completion.Fails (λ r. Asks kind.UrbCompletion (asksBy (urbCompletionReading (withOutputFrom m r)))) (λ f. refused) (halfAt m 20) (wordAt m 16) 20 _ λ g. field-by completion.Fails (λ r. Asks kind.UrbCompletion (asksBy (urbCompletionReading (withOutputFrom m r)))) (λ f. refused) m (20 + wordAt m 16) 4 _ λ j. field-by completion.Fails (λ r. Asks kind.UrbCompletion (asksBy (urbCompletionReading (withOutputFrom m r)))) (λ f. refused) m (20 + wordAt m 16 + 4) 4 _ λ l.
+      field-by urbCompletion.Fails (λ r. Asks kind.UrbCompletion (asksBy (urbCompletionReading r))) (λ f. refused) m (20 + wordAt m 16 + 8) (wordAt m (20 + wordAt m 16 + 4)) _ λ n.
+      ended-by urbCompletion.Fails (λ r. Asks kind.UrbCompletion (asksBy (urbCompletionReading r))) (λ f. refused) m (20 + wordAt m 16 + 8 + wordAt m (20 + wordAt m 16 + 4)) _ λ z.
+      λ e. let p : 20 + wordAt m 16 + 4 + 4 ≡ 20 + wordAt m 16 + 8 = omega arith in let w : 20 + wordAt m 16 + 8 ≤ length m = subst (λ k. k ≤ length m) p (reaches (20 + wordAt m 16 + 4) (length m) l) in let o = holds (20 + wordAt m 16 + 8) (wordAt m (20 + wordAt m 16 + 4)) (length m) w n in
+      record { given = both (both known (part-in m _ (behind-result (wordAt m 16) (length m) c d) fits)) (both (part-in m _ o fits) (asked _ _ e)); pieces = head-cut i 1 0x101 m _ hd ∙ ap (λ r. Word (wordAt m 0) ∷ Word (wordAt m 4) ∷ Word (wordAt m 8) ∷ r) (completion-cut m _ _ c g (λ k. Run (record { start = k; size = wordAt m (20 + wordAt m 16 + 4) }) ∷ [])); spans = result-spans (wordAt m 16) (wordAt m (20 + wordAt m 16 + 4)) (length m) c o z }
+
+  pub no-data-rebuilt : Headed i 1 0x102 m → interfaceAllowed i ≡ true → Asks kind.UrbCompletionNoData (asksBy (urbCompletionNoDataReading (urbCompletionNoDataOf m)))
+  unfolding urbCompletionNoDataOf completionOf completionWith completedOf givenIn piecesOf fieldsIn urbCompletionIn noDataIn cutsFrom spansOf
+  no-data-rebuilt hd known =
+      field-by completion.Fails (λ r. Asks kind.UrbCompletionNoData (asksBy (urbCompletionNoDataReading (noDataFrom m r)))) (λ f. refused) m 12 4 _ λ a. field-by completion.Fails (λ r. Asks kind.UrbCompletionNoData (asksBy (urbCompletionNoDataReading (noDataFrom m r)))) (λ f. refused) m 16 4 _ λ b. atLeast-by completion.Fails (λ r. Asks kind.UrbCompletionNoData (asksBy (urbCompletionNoDataReading (noDataFrom m r)))) (λ f. refused) 8 (wordAt m 16) 16 _ λ c. field-by completion.Fails (λ r. Asks kind.UrbCompletionNoData (asksBy (urbCompletionNoDataReading (noDataFrom m r)))) (λ f. refused) m 20 (wordAt m 16) _ λ d.
+      agrees-by completion.Fails (λ r. Asks kind.UrbCompletionNoData (asksBy (urbCompletionNoDataReading (noDataFrom m r)))) (λ f. refused) (halfAt m 20) (wordAt m 16) 20 _ λ g. field-by completion.Fails (λ r. Asks kind.UrbCompletionNoData (asksBy (urbCompletionNoDataReading (noDataFrom m r)))) (λ f. refused) m (20 + wordAt m 16) 4 _ λ j. field-by completion.Fails (λ r. Asks kind.UrbCompletionNoData (asksBy (urbCompletionNoDataReading (noDataFrom m r)))) (λ f. refused) m (20 + wordAt m 16 + 4) 4 _ λ l.
+      ended-by urbCompletionNoData.Fails (λ r. Asks kind.UrbCompletionNoData (asksBy (urbCompletionNoDataReading r))) (λ f. refused) m (20 + wordAt m 16 + 8) _ λ z.
+      λ e. let p : 20 + wordAt m 16 + 4 + 4 ≡ 20 + wordAt m 16 + 8 = omega arith in let w : 20 + wordAt m 16 + 8 ≤ length m = subst (λ k. k ≤ length m) p (reaches (20 + wordAt m 16 + 4) (length m) l) in
+      record { given = both known (part-in m _ (behind-result (wordAt m 16) (length m) c d) fits); pieces = head-cut i 1 0x102 m _ hd ∙ ap (λ r. Word (wordAt m 0) ∷ Word (wordAt m 4) ∷ Word (wordAt m 8) ∷ r) (completion-cut m _ _ c g (λ k. Run emptyPart ∷ [])); spans = result-spans (wordAt m 16) 0 (length m) c (subst (λ k. k ≤ length m) (sym (add-zero (20 + wordAt m 16 + 8))) w) (subst (λ k. length m ≤ k) (sym (add-zero (20 + wordAt m 16 + 8))) z) }
+
