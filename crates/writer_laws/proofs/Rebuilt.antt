@@ -97,26 +97,26 @@ pub part-in : (m : List ℕ) (p : Part) → p .start + p .size ≤ length m → 
 part-in m p h l = rw (le-ltb (length m) (p .start) (omega arith), le-ltb (length m - p .start) (p .size) (omega arith), le-leb (p .size) 65535 (omega arith))
 
 -- sums of places, each by itself
-behind-result : (n l : ℕ) → 8 ≤ n → n ≤ l - 20 → 28 + (n - 8) ≤ l
+pub behind-result : (n l : ℕ) → 8 ≤ n → n ≤ l - 20 → 28 + (n - 8) ≤ l
 behind-result n l h k = omega arith
 
 add-zero : (n : ℕ) → n + 0 ≡ n
 add-zero n = omega arith
 
-reaches : (at l : ℕ) → 4 ≤ l - at → at + 4 ≤ l
+pub reaches : (at l : ℕ) → 4 ≤ l - at → at + 4 ≤ l
 reaches at l h = omega arith
 
-holds : (at size l : ℕ) → at ≤ l → size ≤ l - at → at + size ≤ l
+pub holds : (at size l : ℕ) → at ≤ l → size ≤ l - at → at + size ≤ l
 holds at size l h k = omega arith
 
 result-spans : (n size l : ℕ) → 8 ≤ n → 20 + n + 8 + size ≤ l → l ≤ 20 + n + 8 + size → 4 + (4 + (4 + (4 + (4 + (4 + (4 + (n - 8 + (4 + (4 + (size + 0)))))))))) ≡ l
 result-spans n size l h a b = omega arith
 
 -- the pieces of a URB completion behind its header, by the places that they are computed at and by those of the layout
-completion-cut : (m : List ℕ) (n : ℕ) (size : ℕ) → 8 ≤ n → halfAt m 20 ≡ n → (last : ℕ → List Piece)
+completion-cut : (m : List ℕ) (n : ℕ) → 8 ≤ n → halfAt m 20 ≡ n → (last : ℕ → List Piece)
     → Word (wordAt m 12) ∷ Word (8 + (n - 8)) ∷ Word (8 + (n - 8)) ∷ Word (wordAt m 24) ∷ Run (record { start = 28; size = n - 8 }) ∷ Word (wordAt m (20 + n)) ∷ Word (wordAt m (20 + n + 4)) ∷ last (20 + n + 8)
     ≡ Word (wordAt m 12) ∷ Word n ∷ Word (halfAt m 20) ∷ Word (wordAt m 24) ∷ Run (record { start = 28; size = n - 8 }) ∷ Word (wordAt m (28 + (n - 8))) ∷ Word (wordAt m (28 + (n - 8) + 4)) ∷ last (28 + (n - 8) + 4 + 4)
-completion-cut m n size h g last =
+completion-cut m n h g last =
     let a : 8 + (n - 8) ≡ n = omega arith in
     let b : 28 + (n - 8) ≡ 20 + n = omega arith in
     let c : 20 + n + 4 + 4 ≡ 20 + n + 8 = omega arith in
@@ -204,7 +204,7 @@ module _ (m : List ℕ) (long : 12 ≤ length m) (fits : length m ≤ 65535) whe
       field-by urbCompletion.Fails (λ r. Asks kind.UrbCompletion (asksBy (urbCompletionReading r))) (λ f. refused) m (20 + wordAt m 16 + 8) (wordAt m (20 + wordAt m 16 + 4)) _ λ n.
       ended-by urbCompletion.Fails (λ r. Asks kind.UrbCompletion (asksBy (urbCompletionReading r))) (λ f. refused) m (20 + wordAt m 16 + 8 + wordAt m (20 + wordAt m 16 + 4)) _ λ z.
       λ e. let p : 20 + wordAt m 16 + 4 + 4 ≡ 20 + wordAt m 16 + 8 = omega arith in let w : 20 + wordAt m 16 + 8 ≤ length m = subst (λ k. k ≤ length m) p (reaches (20 + wordAt m 16 + 4) (length m) l) in let o = holds (20 + wordAt m 16 + 8) (wordAt m (20 + wordAt m 16 + 4)) (length m) w n in
-      record { given = both (both known (part-in m _ (behind-result (wordAt m 16) (length m) c d) fits)) (both (part-in m _ o fits) (asked _ _ e)); pieces = head-cut i 1 0x101 m _ hd ∙ ap (λ r. Word (wordAt m 0) ∷ Word (wordAt m 4) ∷ Word (wordAt m 8) ∷ r) (completion-cut m _ _ c g (λ k. Run (record { start = k; size = wordAt m (20 + wordAt m 16 + 4) }) ∷ [])); spans = result-spans (wordAt m 16) (wordAt m (20 + wordAt m 16 + 4)) (length m) c o z }
+      record { given = both (both known (part-in m _ (behind-result (wordAt m 16) (length m) c d) fits)) (both (part-in m _ o fits) (asked _ _ e)); pieces = head-cut i 1 0x101 m _ hd ∙ ap (λ r. Word (wordAt m 0) ∷ Word (wordAt m 4) ∷ Word (wordAt m 8) ∷ r) (completion-cut m (wordAt m 16) c g (λ k. Run (record { start = k; size = wordAt m (20 + wordAt m 16 + 4) }) ∷ [])); spans = result-spans (wordAt m 16) (wordAt m (20 + wordAt m 16 + 4)) (length m) c o z }
 
   pub no-data-rebuilt : Headed i 1 0x102 m → interfaceAllowed i ≡ true → Asks kind.UrbCompletionNoData (asksBy (urbCompletionNoDataReading (urbCompletionNoDataOf m)))
   unfolding urbCompletionNoDataOf completionOf completionWith completedOf givenIn piecesOf fieldsIn urbCompletionIn noDataIn cutsFrom spansOf
@@ -213,5 +213,5 @@ module _ (m : List ℕ) (long : 12 ≤ length m) (fits : length m ≤ 65535) whe
       agrees-by completion.Fails (λ r. Asks kind.UrbCompletionNoData (asksBy (urbCompletionNoDataReading (noDataFrom m r)))) (λ f. refused) (halfAt m 20) (wordAt m 16) 20 _ λ g. field-by completion.Fails (λ r. Asks kind.UrbCompletionNoData (asksBy (urbCompletionNoDataReading (noDataFrom m r)))) (λ f. refused) m (20 + wordAt m 16) 4 _ λ j. field-by completion.Fails (λ r. Asks kind.UrbCompletionNoData (asksBy (urbCompletionNoDataReading (noDataFrom m r)))) (λ f. refused) m (20 + wordAt m 16 + 4) 4 _ λ l.
       ended-by urbCompletionNoData.Fails (λ r. Asks kind.UrbCompletionNoData (asksBy (urbCompletionNoDataReading r))) (λ f. refused) m (20 + wordAt m 16 + 8) _ λ z.
       λ e. let p : 20 + wordAt m 16 + 4 + 4 ≡ 20 + wordAt m 16 + 8 = omega arith in let w : 20 + wordAt m 16 + 8 ≤ length m = subst (λ k. k ≤ length m) p (reaches (20 + wordAt m 16 + 4) (length m) l) in
-      record { given = both known (part-in m _ (behind-result (wordAt m 16) (length m) c d) fits); pieces = head-cut i 1 0x102 m _ hd ∙ ap (λ r. Word (wordAt m 0) ∷ Word (wordAt m 4) ∷ Word (wordAt m 8) ∷ r) (completion-cut m _ _ c g (λ k. Run emptyPart ∷ [])); spans = result-spans (wordAt m 16) 0 (length m) c (subst (λ k. k ≤ length m) (sym (add-zero (20 + wordAt m 16 + 8))) w) (subst (λ k. length m ≤ k) (sym (add-zero (20 + wordAt m 16 + 8))) z) }
+      record { given = both known (part-in m _ (behind-result (wordAt m 16) (length m) c d) fits); pieces = head-cut i 1 0x102 m _ hd ∙ ap (λ r. Word (wordAt m 0) ∷ Word (wordAt m 4) ∷ Word (wordAt m 8) ∷ r) (completion-cut m (wordAt m 16) c g (λ k. Run emptyPart ∷ [])); spans = result-spans (wordAt m 16) 0 (length m) c (subst (λ k. k ≤ length m) (sym (add-zero (20 + wordAt m 16 + 8))) w) (subst (λ k. length m ≤ k) (sym (add-zero (20 + wordAt m 16 + 8))) z) }
 
