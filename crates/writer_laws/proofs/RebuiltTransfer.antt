@@ -170,3 +170,44 @@ module _ (m : List ℕ) (fits : length m ≤ 65535) (bytes : Bytes m) where
     where
       sixteen : 4 ≤ left m 12 → 16 ≤ length m
       sixteen a = omega arith
+
+  -- the same of a transfer out, whose data stand behind OutputBufferSize
+  abbrev size : ℕ
+  size = wordAt m (16 + n)
+
+  abbrev output : Part
+  output = record { start = 16 + n + 4; size = size }
+
+  out-found : Headed i 1 0x106 m → interfaceAllowed i ≡ true → (there : 16 + n ≤ length m) → 8 ≤ n → halfAt u 16 ≡ n → (b : Urb) (end : ℕ) → tsUrbOf u ≡ ts.Fits (withStructure b) end
+      → BuiltAs m fits n there bytes (halfAt u 18) b → 16 + n + 4 + size ≤ length m → length m ≤ 16 + n + 4 + size → transferOutRequestAllowed (record { urb = withStructure b; size = size; output = output }) ≡ true → Rebuilt kind.TransferOutRequest m
+  unfolding givenIn piecesOf fieldsIn transferOut transferOutGiven transferOutRequestAllowed cutsFrom spansOf
+  out-found hd known there h g b end e q l z a =
+      let a1 = split (urbAllowed b) (not (onlyIn b) && cond (noAckIn (wordAt u 20)) (mayNoAck b) true) a in
+      let a2 = split (not (onlyIn b)) (cond (noAckIn (wordAt u 20)) (mayNoAck b) true) (a1 .1) in
+      record
+      { given = rw (e, q .stated) (both known (both (request-small (wordAt u 20)) (both (part-in m output l fits) (both (q .allowed) (both (ap not (q .only) ∙ a2 .0) (rw (q .noack) (a2 .1)))))))
+      ; pieces = rw e (head-cut i 1 0x106 m _ hd ∙ ap (λ r. Word (wordAt m 0) ∷ Word (wordAt m 4) ∷ Word (wordAt m 8) ∷ r) (first-words (structureSize (structureIn b)) h g (q .size) _ _ (last-words there b q (run size))))
+      ; spans = rw e (all-spans there b q (run size) (equal (16 + n + 4 + size) (length m) l z)) }
+    where
+      equal : (a b : ℕ) → a ≤ b → b ≤ a → a ≡ b
+      equal a b p s = omega arith
+
+  out-from : Headed i 1 0x106 m → interfaceAllowed i ≡ true → (there : 16 + n ≤ length m) → 8 ≤ n → (r : TsUrbRead) → tsUrbOf u ≡ r → Read there r → Asks kind.TransferOutRequest m (asksBy (transferOutRequestReading (outgoingFrom m (transferFrom m (16 + n) r))))
+  unfolding outputOf outgoingOf transferOutRequestAllowed
+  out-from hd known there h (ts.Fits t end) e (b, x, g, q) =
+      field-by transfer.Fails (λ r. Asks kind.TransferOutRequest m (asksBy (transferOutRequestReading (outgoingFrom m r)))) (λ f. refused) m (16 + n) 4 _ λ c.
+      field-by transferOutRequest.Fails (λ r. Asks kind.TransferOutRequest m (asksBy (transferOutRequestReading r))) (λ f. refused) m (16 + n + 4) size _ λ s. filled-by transferOutRequest.Fails (λ r. Asks kind.TransferOutRequest m (asksBy (transferOutRequestReading r))) (λ f. refused) end (16 + n) _ λ d. ended-by transferOutRequest.Fails (λ r. Asks kind.TransferOutRequest m (asksBy (transferOutRequestReading r))) (λ f. refused) m (16 + n + 4 + size) _ λ z.
+      λ a. let k : transferOutRequestAllowed (record { urb = withStructure b; size = size; output = output }) ≡ true = subst (λ y. transferOutRequestAllowed (record { urb = y; size = size; output = output }) ≡ true) x (asked (transferOutRequestAllowed (record { urb = t; size = size; output = output })) _ a) in
+      out-found hd known there h g b end (e ∙ ap (λ y. ts.Fits y end) x) (q d (split (urbAllowed b) (not (onlyIn b) && cond (noAckIn (wordAt u 20)) (mayNoAck b) true) k .0)) (holds (16 + n + 4) size (length m) (reaches (16 + n) (length m) c) s) z k
+  out-from hd known there h (ts.Fails fault) e q = refused
+
+  pub out-rebuilt : Headed i 1 0x106 m → interfaceAllowed i ≡ true → Asks kind.TransferOutRequest m (asksBy (transferOutRequestReading (transferOutRequestOf m)))
+  unfolding transferOutRequestOf transferOf transferWith
+  out-rebuilt hd known =
+      field-by transfer.Fails (λ r. Asks kind.TransferOutRequest m (asksBy (transferOutRequestReading (outgoingFrom m r)))) (λ f. refused) m 12 4 _ λ a.
+      atLeast-by transfer.Fails (λ r. Asks kind.TransferOutRequest m (asksBy (transferOutRequestReading (outgoingFrom m r)))) (λ f. refused) 8 n 12 _ λ b.
+      field-by transfer.Fails (λ r. Asks kind.TransferOutRequest m (asksBy (transferOutRequestReading (outgoingFrom m r)))) (λ f. refused) m 16 n _ λ c.
+      let there : 16 + n ≤ length m = holds 16 n (length m) (sixteen a) c in out-from hd known there b (tsUrbOf u) refl (urb-read there)
+    where
+      sixteen : 4 ≤ left m 12 → 16 ≤ length m
+      sixteen a = omega arith
