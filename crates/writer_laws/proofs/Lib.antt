@@ -5,3 +5,5 @@ pub mod Rebuilt
 pub mod RebuiltDevice
 pub mod RebuiltUrb
 pub mod RebuiltTransfer
+pub mod Headers
+pub mod Again

@@ -1,3 +1,4 @@
 pub mod Places
 pub mod Layout
 pub mod Rebuilt
+pub mod Passed
