@@ -7,3 +7,4 @@ pub mod RebuiltUrb
 pub mod RebuiltTransfer
 pub mod Headers
 pub mod Again
+pub mod Back

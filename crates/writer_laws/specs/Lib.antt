@@ -2,3 +2,4 @@ pub mod Places
 pub mod Layout
 pub mod Rebuilt
 pub mod Passed
+pub mod ReadBack
