@@ -6,13 +6,13 @@ use mathlib.Core.List.{List, [], _∷_, _++_}
 use mathlib.Core.Bool.{Bool, true, false, cond, not, _&&_}
 use lib.ListN.{length, getD}
 use lib.Dec.{ltb, leb, eqb}
-use borrow.Author.Tests.{eqb-false, eqb-true, le-ltb, ltb-true, ne-eqb}
+use borrow.Author.Tests.{eq-eqb, le-ltb, ltb-true}
 use Rattle.words.specs.Hresult.{succeeded}
 use Rattle.words.specs.Words.{byteAt, halfAt, wordAt}
 use Rattle.words.specs.Layout.{agrees, atLeast, ended, field, filled, left}
 use Rattle.words.specs.declared.layout.Part.{Part}
 use Rattle.words.specs.declared.layout.Fault.{Fault}
-use Rattle.header.specs.Ids.{assignable, interfaceIn, messageIn, requestIn}
+use Rattle.header.specs.Ids.{assignable, interfaceIn, maskIn, messageIn, requestIn}
 use Rattle.header.specs.declared.ids.Known.the-variants as known
 use Rattle.header.specs.declared.ids.MessageId.{MessageId}
 use Rattle.header.specs.declared.ids.RequestId.{RequestId}
@@ -73,6 +73,8 @@ use Rattle.writer.specs.SharedMsgHeader.{interfaceAllowed}
 use Rattle.writer.specs.Part.{partAllowed}
 use Rattle.writer.specs.Message.{bytesOf, givenIn, piecesOf}
 use Rattle.writer.specs.RegisterRequestCallback.{completionAllowed}
+use Rattle.writer.specs.UrbCompletion.{resultGiven, urbCompletionGiven}
+use Rattle.writer.proofs.Lies.{lies}
 use Rattle.writer.specs.declared.register_request_callback.RegisterRequestCallbackFields.{RegisterRequestCallbackFields}
 use Rattle.writer.specs.declared.register_request_callback.RequestCompletion.{RequestCompletion}
 use Rattle.writer.specs.declared.register_request_callback.RequestCompletion.the-variants as completes
@@ -87,8 +89,8 @@ use Rattle.fields.specs.UrbCompletion.{noDataIn, urbCompletionIn}
 use Rattle.writer_laws.specs.Layout.{Bytes}
 use Rattle.writer_laws.specs.Rebuilt.{asksSome}
 use Rattle.writer_laws.specs.ReadBack.{ReadBack, Wide32, kindOf, numbersOf, partsOf}
-use Rattle.writer_laws.proofs.Places.{places}
-use Rattle.writer_laws.proofs.Rebuilt.{Headed}
+use Rattle.writer_laws.proofs.Places.{fits-length, places}
+use Rattle.writer_laws.proofs.Rebuilt.{Headed, refused}
 use Rattle.writer_laws.proofs.RebuiltDevice.{split}
 
 -- a test that holds
@@ -273,3 +275,215 @@ retract-back id i b s bytes n t given wide =
     ; head = record { first = h; third = f }
     ; long = omega (arith, l) }
 
+long-of : (l k : ℕ) → l ≡ k → 12 ≤ k → 12 ≤ l
+long-of l k e h = subst (λ x. 12 ≤ x) (sym e) h
+
+reach : (l k at : ℕ) → l ≡ k → at ≤ k → at ≤ l
+reach l k at e h = subst (λ x. at ≤ x) (sym e) h
+
+within : (l k at : ℕ) → l ≡ k → k ≤ at → l ≤ at
+within l k at e h = subst (λ x. x ≤ at) (sym e) h
+
+unzero : (a b : Bool) → cond a false b ≡ true → (a ≡ false) × (b ≡ true)
+unzero true b e = (sym e, refused e)
+unzero false b e = (refl, e)
+
+half-same : (x : ℕ) → x < 65536 → x % 65536 ≡ x
+half-same x h = omega arith
+
+lower : (x k l : ℕ) → l ≡ k → l ≤ 65535 → x ≤ k → x < 65536
+lower x k l e h g = omega arith
+
+eight-small : (s : List ℕ) (p : Part) → partAllowed s p ≡ true → 8 + p .size < 4294967296
+eight-small s p e = let q = lies s p e .1 in omega arith
+
+part-small : (s : List ℕ) (p : Part) → partAllowed s p ≡ true → p .size < 4294967296
+part-small s p e = let q = lies s p e .1 in omega arith
+
+pub no-callback-back : (id : MessageId) (i : ℕ) (count : ℕ) (s : List ℕ) → Bytes s → (n : ℕ) → totalFrom (length s) 0 (piecesOf id (fields.RegisterRequestCallback i (record { count = count; completion = completes.Nothing }))) ≡ total.Fits n → (interfaceAllowed i && eqb count 0) ≡ true → Wide32 id (fields.RegisterRequestCallback i (record { count = count; completion = completes.Nothing })) → Back id (fields.RegisterRequestCallback i (record { count = count; completion = completes.Nothing })) s i 1 0x101
+unfolding askedOf readingOf piecesOf fieldsIn numbersOf partsOf registerRequestCallbackOf
+no-callback-back id i count s bytes n t given wide =
+    let w = bytesOf id (fields.RegisterRequestCallback i (record { count = count; completion = completes.Nothing })) s in
+    let p = places s (piecesOf id (fields.RegisterRequestCallback i (record { count = count; completion = completes.Nothing }))) n bytes t in
+    let b30 = below-30 i (split (interfaceAllowed i) (eqb count 0) given .0) in
+    let h = p .0 (first-below i b30) .0 in
+    let m = p .1 .0 (wide .0) .0 in
+    let f = p .1 .1 .0 (omega arith) .0 in
+    let e3 = p .1 .1 .1 .0 (wide .1 1) .0 in
+    let l = p .1 .1 .1 .1 in
+    let k = interface-back (wordAt w 0) i h b30 in
+    let z : eqb (wordAt w 12) 0 ≡ true = rw e3 (split (interfaceAllowed i) (eqb count 0) given .1) in
+    let c : registerRequestCallbackOf w ≡ registerRequestCallback.Fits (record { count = wordAt w 12; callback = known.Nothing; top = 0 }) = field-there registerRequestCallback.Fails w 12 4 _ (reach (length w) 16 16 l (omega arith)) ∙ (rw z (ended-there registerRequestCallback.Fails w 16 _ (within (length w) 16 16 l (omega arith)))) in
+    record
+    { back = record
+      { asks = ap (λ r. asksSome (asksBy (registerRequestCallbackReading r))) c
+      ; message = message-back _ id m
+      ; numbers = same k (rw z (same e3 refl))
+      ; parts = refl }
+    ; head = record { first = h; third = f }
+    ; long = long-of (length w) _ l (omega arith) }
+
+pub callback-back : (id : MessageId) (i : ℕ) (count word : ℕ) (s : List ℕ) → Bytes s → (n : ℕ) → totalFrom (length s) 0 (piecesOf id (fields.RegisterRequestCallback i (record { count = count; completion = completes.Is word }))) ≡ total.Fits n → (interfaceAllowed i && completionAllowed count (completes.Is word)) ≡ true → Wide32 id (fields.RegisterRequestCallback i (record { count = count; completion = completes.Is word })) → Back id (fields.RegisterRequestCallback i (record { count = count; completion = completes.Is word })) s i 1 0x101
+unfolding askedOf readingOf piecesOf fieldsIn numbersOf partsOf registerRequestCallbackOf
+callback-back id i count word s bytes n t given wide =
+    let w = bytesOf id (fields.RegisterRequestCallback i (record { count = count; completion = completes.Is word })) s in
+    let p = places s (piecesOf id (fields.RegisterRequestCallback i (record { count = count; completion = completes.Is word }))) n bytes t in
+    let b30 = below-30 i (split (interfaceAllowed i) (completionAllowed count (completes.Is word)) given .0) in
+    let h = p .0 (first-below i b30) .0 in
+    let m = p .1 .0 (wide .0) .0 in
+    let f = p .1 .1 .0 (omega arith) .0 in
+    let e3 = p .1 .1 .1 .0 (wide .1 1) .0 in
+    let e4 = p .1 .1 .1 .1 .0 (wide .1 2) .0 in
+    let l = p .1 .1 .1 .1 .1 in
+    let k = interface-back (wordAt w 0) i h b30 in
+    let y = unzero (eqb count 0) (assignable (interfaceIn word)) (split (interfaceAllowed i) (completionAllowed count (completes.Is word)) given .1) in
+    let z : eqb (wordAt w 12) 0 ≡ false = rw e3 (y .0) in
+    let c : registerRequestCallbackOf w ≡ registerRequestCallback.Fits (record { count = wordAt w 12; callback = known.Is (interfaceIn (wordAt w 16)); top = maskIn (wordAt w 16) }) = field-there registerRequestCallback.Fails w 12 4 _ (reach (length w) 20 16 l (omega arith)) ∙ (rw z (field-there registerRequestCallback.Fails w 16 4 _ (reach (length w) 20 20 l (omega arith)) ∙ ended-there registerRequestCallback.Fails w 20 _ (within (length w) 20 20 l (omega arith)))) in
+    record
+    { back = record
+      { asks = ap (λ r. asksSome (asksBy (registerRequestCallbackReading r))) c ∙ some (assignable (interfaceIn (wordAt w 16))) _ (rw e4 (y .1)) refl
+      ; message = message-back _ id m
+      ; numbers = same k (rw z (same e3 (same e4 refl)))
+      ; parts = refl }
+    ; head = record { first = h; third = f }
+    ; long = long-of (length w) _ l (omega arith) }
+
+pub io-control-back : (id : MessageId) (i : ℕ) (b : IoControl) (s : List ℕ) → Bytes s → (n : ℕ) → totalFrom (length s) 0 (piecesOf id (fields.IoControl i b)) ≡ total.Fits n → (interfaceAllowed i && partAllowed s (b .input)) ≡ true → Wide32 id (fields.IoControl i b) → Back id (fields.IoControl i b) s i 1 0x102
+unfolding askedOf readingOf piecesOf fieldsIn numbersOf partsOf ioControlOf ioControlWith
+io-control-back id i b s bytes n t given wide =
+    let w = bytesOf id (fields.IoControl i b) s in
+    let p = places s (piecesOf id (fields.IoControl i b)) n bytes t in
+    let b30 = below-30 i (split (interfaceAllowed i) (partAllowed s (b .input)) given .0) in
+    let h = p .0 (first-below i b30) .0 in
+    let m = p .1 .0 (wide .0) .0 in
+    let f = p .1 .1 .0 (omega arith) .0 in
+    let e3 = p .1 .1 .1 .0 (wide .1 1) .0 in
+    let e4 = p .1 .1 .1 .1 .0 (part-small s (b .input) (split (interfaceAllowed i) (partAllowed s (b .input)) given .1)) .0 in
+    let r5 = p .1 .1 .1 .1 .1 .0 in
+    let e6 = p .1 .1 .1 .1 .1 .1 .0 (wide .1 2) .0 in
+    let e7 = p .1 .1 .1 .1 .1 .1 .1 .0 (wide .1 3) .0 in
+    let l = p .1 .1 .1 .1 .1 .1 .1 .1 in
+    let k = interface-back (wordAt w 0) i h b30 in
+    record
+    { back = record
+      { asks = ap (λ r. asksSome (asksBy (ioControlReading r))) (field-there ioControl.Fails w 12 4 _ (reach (length w) (20 + b .input .size + 4 + 4) 16 l (omega arith)) ∙ (field-there ioControl.Fails w 16 4 _ (reach (length w) (20 + b .input .size + 4 + 4) 20 l (omega arith)) ∙ (field-there ioControl.Fails w 20 (wordAt w 16) _ (rw e4 (reach (length w) (20 + b .input .size + 4 + 4) (20 + b .input .size) l (omega arith))) ∙ (field-there ioControl.Fails w (20 + wordAt w 16) 4 _ (rw e4 (reach (length w) (20 + b .input .size + 4 + 4) (20 + b .input .size + 4) l (omega arith))) ∙ (field-there ioControl.Fails w (20 + wordAt w 16 + 4) 4 _ (rw e4 (reach (length w) (20 + b .input .size + 4 + 4) (20 + b .input .size + 4 + 4) l (omega arith))) ∙ (ended-there ioControl.Fails w (20 + wordAt w 16 + 8) _ (rw e4 (within (length w) (20 + b .input .size + 4 + 4) (20 + b .input .size + 8) l (omega arith)))))))))
+      ; message = message-back _ id m
+      ; numbers = same k (same e3 (same (ap (λ x. wordAt w (20 + x)) e4 ∙ e6) (same (ap (λ x. wordAt w (20 + x + 4)) e4 ∙ e7) refl)))
+      ; parts = same (ap (λ x. cut w (record { start = 20; size = x })) e4 ∙ r5) refl }
+    ; head = record { first = h; third = f }
+    ; long = long-of (length w) _ l (omega arith) }
+
+pub internal-back : (id : MessageId) (i : ℕ) (b : IoControl) (s : List ℕ) → Bytes s → (n : ℕ) → totalFrom (length s) 0 (piecesOf id (fields.InternalIoControl i b)) ≡ total.Fits n → (interfaceAllowed i && partAllowed s (b .input)) ≡ true → Wide32 id (fields.InternalIoControl i b) → Back id (fields.InternalIoControl i b) s i 1 0x103
+unfolding askedOf readingOf piecesOf fieldsIn numbersOf partsOf ioControlOf ioControlWith
+internal-back id i b s bytes n t given wide =
+    let w = bytesOf id (fields.InternalIoControl i b) s in
+    let p = places s (piecesOf id (fields.InternalIoControl i b)) n bytes t in
+    let b30 = below-30 i (split (interfaceAllowed i) (partAllowed s (b .input)) given .0) in
+    let h = p .0 (first-below i b30) .0 in
+    let m = p .1 .0 (wide .0) .0 in
+    let f = p .1 .1 .0 (omega arith) .0 in
+    let e3 = p .1 .1 .1 .0 (wide .1 1) .0 in
+    let e4 = p .1 .1 .1 .1 .0 (part-small s (b .input) (split (interfaceAllowed i) (partAllowed s (b .input)) given .1)) .0 in
+    let r5 = p .1 .1 .1 .1 .1 .0 in
+    let e6 = p .1 .1 .1 .1 .1 .1 .0 (wide .1 2) .0 in
+    let e7 = p .1 .1 .1 .1 .1 .1 .1 .0 (wide .1 3) .0 in
+    let l = p .1 .1 .1 .1 .1 .1 .1 .1 in
+    let k = interface-back (wordAt w 0) i h b30 in
+    record
+    { back = record
+      { asks = ap (λ r. asksSome (asksBy (ioControlReading r))) (field-there ioControl.Fails w 12 4 _ (reach (length w) (20 + b .input .size + 4 + 4) 16 l (omega arith)) ∙ (field-there ioControl.Fails w 16 4 _ (reach (length w) (20 + b .input .size + 4 + 4) 20 l (omega arith)) ∙ (field-there ioControl.Fails w 20 (wordAt w 16) _ (rw e4 (reach (length w) (20 + b .input .size + 4 + 4) (20 + b .input .size) l (omega arith))) ∙ (field-there ioControl.Fails w (20 + wordAt w 16) 4 _ (rw e4 (reach (length w) (20 + b .input .size + 4 + 4) (20 + b .input .size + 4) l (omega arith))) ∙ (field-there ioControl.Fails w (20 + wordAt w 16 + 4) 4 _ (rw e4 (reach (length w) (20 + b .input .size + 4 + 4) (20 + b .input .size + 4 + 4) l (omega arith))) ∙ (ended-there ioControl.Fails w (20 + wordAt w 16 + 8) _ (rw e4 (within (length w) (20 + b .input .size + 4 + 4) (20 + b .input .size + 8) l (omega arith)))))))))
+      ; message = message-back _ id m
+      ; numbers = same k (same e3 (same (ap (λ x. wordAt w (20 + x)) e4 ∙ e6) (same (ap (λ x. wordAt w (20 + x + 4)) e4 ∙ e7) refl)))
+      ; parts = same (ap (λ x. cut w (record { start = 20; size = x })) e4 ∙ r5) refl }
+    ; head = record { first = h; third = f }
+    ; long = long-of (length w) _ l (omega arith) }
+
+pub io-completion-back : (id : MessageId) (i : ℕ) (b : IoControlCompletionFields) (s : List ℕ) → Bytes s → (n : ℕ) → totalFrom (length s) 0 (piecesOf id (fields.IoControlCompletion i b)) ≡ total.Fits n → (interfaceAllowed i && partAllowed s (b .output)) ≡ true → Wide32 id (fields.IoControlCompletion i b) → Back id (fields.IoControlCompletion i b) s i 1 0x100
+unfolding askedOf readingOf piecesOf fieldsIn numbersOf partsOf ioControlCompletionOf ioControlCompletionWith
+io-completion-back id i b s bytes n t given wide =
+    let w = bytesOf id (fields.IoControlCompletion i b) s in
+    let p = places s (piecesOf id (fields.IoControlCompletion i b)) n bytes t in
+    let b30 = below-30 i (split (interfaceAllowed i) (partAllowed s (b .output)) given .0) in
+    let h = p .0 (first-below i b30) .0 in
+    let m = p .1 .0 (wide .0) .0 in
+    let f = p .1 .1 .0 (omega arith) .0 in
+    let e3 = p .1 .1 .1 .0 (wide .1 1) .0 in
+    let e4 = p .1 .1 .1 .1 .0 (wide .1 2) .0 in
+    let e5 = p .1 .1 .1 .1 .1 .0 (wide .1 3) .0 in
+    let e6 = p .1 .1 .1 .1 .1 .1 .0 (part-small s (b .output) (split (interfaceAllowed i) (partAllowed s (b .output)) given .1)) .0 in
+    let r7 = p .1 .1 .1 .1 .1 .1 .1 .0 in
+    let l = p .1 .1 .1 .1 .1 .1 .1 .1 in
+    let k = interface-back (wordAt w 0) i h b30 in
+    record
+    { back = record
+      { asks = ap (λ r. asksSome (asksBy (ioControlCompletionReading r))) (field-there ioControlCompletion.Fails w 12 4 _ (reach (length w) (28 + b .output .size) 16 l (omega arith)) ∙ (field-there ioControlCompletion.Fails w 16 4 _ (reach (length w) (28 + b .output .size) 20 l (omega arith)) ∙ (field-there ioControlCompletion.Fails w 20 4 _ (reach (length w) (28 + b .output .size) 24 l (omega arith)) ∙ (field-there ioControlCompletion.Fails w 24 4 _ (reach (length w) (28 + b .output .size) 28 l (omega arith)) ∙ (field-there ioControlCompletion.Fails w 28 (wordAt w 24) _ (rw e6 (reach (length w) (28 + b .output .size) (28 + b .output .size) l (omega arith))) ∙ (ended-there ioControlCompletion.Fails w (28 + wordAt w 24) _ (rw e6 (within (length w) (28 + b .output .size) (28 + b .output .size) l (omega arith)))))))))
+      ; message = message-back _ id m
+      ; numbers = same k (same e3 (same e4 (same e5 refl)))
+      ; parts = same (ap (λ x. cut w (record { start = 28; size = x })) e6 ∙ r7) refl }
+    ; head = record { first = h; third = f }
+    ; long = long-of (length w) _ l (omega arith) }
+
+pub urb-completion-back : (id : MessageId) (i : ℕ) (b : UrbCompletionFields) (s : List ℕ) → Bytes s → (n : ℕ) → totalFrom (length s) 0 (piecesOf id (fields.UrbCompletion i b)) ≡ total.Fits n → urbCompletionGiven s i b ≡ true → Wide32 id (fields.UrbCompletion i b) → Back id (fields.UrbCompletion i b) s i 1 0x101
+unfolding askedOf readingOf piecesOf fieldsIn numbersOf partsOf urbCompletionOf withOutputOf completionOf completionWith completedOf urbCompletionIn noDataIn
+urb-completion-back id i b s bytes n t given wide =
+    let w = bytesOf id (fields.UrbCompletion i b) s in
+    let p = places s (piecesOf id (fields.UrbCompletion i b)) n bytes t in
+    let b30 = below-30 i (split (interfaceAllowed i) (partAllowed s (b .urb .rest)) (split (resultGiven s i (b .urb)) (partAllowed s (b .output) && not (eqb (b .output .size) 0)) given .0) .0) in
+    let h = p .0 (first-below i b30) .0 in
+    let m = p .1 .0 (wide .0) .0 in
+    let f = p .1 .1 .0 (omega arith) .0 in
+    let e3 = p .1 .1 .1 .0 (wide .1 1) .0 in
+    let q = p .1 .1 .1 .1 .0 (eight-small s (b .urb .rest) (split (interfaceAllowed i) (partAllowed s (b .urb .rest)) (split (resultGiven s i (b .urb)) (partAllowed s (b .output) && not (eqb (b .output .size) 0)) given .0) .1)) .0 in
+    let y20 = p .1 .1 .1 .1 .1 .0 (eight-small s (b .urb .rest) (split (interfaceAllowed i) (partAllowed s (b .urb .rest)) (split (resultGiven s i (b .urb)) (partAllowed s (b .output) && not (eqb (b .output .size) 0)) given .0) .1)) .1 in
+    let e6 = p .1 .1 .1 .1 .1 .1 .0 (wide .1 2) .0 in
+    let r7 = p .1 .1 .1 .1 .1 .1 .1 .0 in
+    let e8 = p .1 .1 .1 .1 .1 .1 .1 .1 .0 (wide .1 3) .0 in
+    let e9 = p .1 .1 .1 .1 .1 .1 .1 .1 .1 .0 (part-small s (b .output) (split (partAllowed s (b .output)) (not (eqb (b .output .size) 0)) (split (resultGiven s i (b .urb)) (partAllowed s (b .output) && not (eqb (b .output .size) 0)) given .1) .0)) .0 in
+    let r10 = p .1 .1 .1 .1 .1 .1 .1 .1 .1 .1 .0 in
+    let l = p .1 .1 .1 .1 .1 .1 .1 .1 .1 .1 .1 in
+    let k = interface-back (wordAt w 0) i h b30 in
+    let x20 : halfAt w 20 ≡ 8 + b .urb .rest .size = y20 ∙ half-same (8 + b .urb .rest .size) (lower (8 + b .urb .rest .size) _ (length w) l (fits-length s _ n t) (omega arith)) in
+    let z : 20 + wordAt w 16 ≡ 28 + b .urb .rest .size = rw q (omega arith) in
+    let o : wordAt w 16 - 8 ≡ b .urb .rest .size = rw q (omega arith) in
+    let z4 : 20 + wordAt w 16 + 4 ≡ 28 + b .urb .rest .size + 4 = ap (λ x. x + 4) z in
+    let z8 : 20 + wordAt w 16 + 8 ≡ 28 + b .urb .rest .size + 4 + 4 = rw q (omega arith) in
+    let s9 : wordAt w (20 + wordAt w 16 + 4) ≡ b .output .size = ap (λ x. wordAt w x) z4 ∙ e9 in
+    record
+    { back = record
+      { asks = ap (λ r. asksSome (asksBy (urbCompletionReading (withOutputFrom w r)))) (field-there completion.Fails w 12 4 _ (reach (length w) (28 + b .urb .rest .size + 4 + 4 + b .output .size) 16 l (omega arith)) ∙ (field-there completion.Fails w 16 4 _ (reach (length w) (28 + b .urb .rest .size + 4 + 4 + b .output .size) 20 l (omega arith)) ∙ (atLeast-there completion.Fails 8 (wordAt w 16) 16 _ (rw q (omega arith)) ∙ (field-there completion.Fails w 20 (wordAt w 16) _ (rw q (reach (length w) (28 + b .urb .rest .size + 4 + 4 + b .output .size) (20 + (8 + b .urb .rest .size)) l (omega arith))) ∙ (agrees-there completion.Fails (eqb (halfAt w 20) (wordAt w 16)) 20 _ (eq-eqb (halfAt w 20) (wordAt w 16) (x20 ∙ sym q)) ∙ (field-there completion.Fails w (20 + wordAt w 16) 4 _ (rw q (reach (length w) (28 + b .urb .rest .size + 4 + 4 + b .output .size) (20 + (8 + b .urb .rest .size) + 4) l (omega arith))) ∙ (field-there completion.Fails w (20 + wordAt w 16 + 4) 4 _ (rw q (reach (length w) (28 + b .urb .rest .size + 4 + 4 + b .output .size) (20 + (8 + b .urb .rest .size) + 4 + 4) l (omega arith)))))))))) ∙ (ap (λ r. asksSome (asksBy (urbCompletionReading r))) (field-there urbCompletion.Fails w (20 + wordAt w 16 + 8) (wordAt w (20 + wordAt w 16 + 4)) _ (rw (z8, s9) (reach (length w) (28 + b .urb .rest .size + 4 + 4 + b .output .size) (28 + b .urb .rest .size + 4 + 4 + b .output .size) l (omega arith))) ∙ (ended-there urbCompletion.Fails w (20 + wordAt w 16 + 8 + wordAt w (20 + wordAt w 16 + 4)) _ (rw (z8, s9) (within (length w) (28 + b .urb .rest .size + 4 + 4 + b .output .size) (28 + b .urb .rest .size + 4 + 4 + b .output .size) l (omega arith))))) ∙ some (not (eqb (wordAt w (20 + wordAt w 16 + 4)) 0)) _ (rw s9 (split (partAllowed s (b .output)) (not (eqb (b .output .size) 0)) (split (resultGiven s i (b .urb)) (partAllowed s (b .output) && not (eqb (b .output .size) 0)) given .1) .1)) refl)
+      ; message = message-back _ id m
+      ; numbers = same k (same e3 (same e6 (same (ap (λ x. wordAt w x) z ∙ e8) refl)))
+      ; parts = same (ap (λ x. cut w (record { start = 28; size = x })) o ∙ r7) (same (ap (λ x. cut w (record { start = x; size = wordAt w (20 + wordAt w 16 + 4) })) z8 ∙ (ap (λ x. cut w (record { start = 28 + b .urb .rest .size + 4 + 4; size = x })) s9 ∙ r10)) refl) }
+    ; head = record { first = h; third = f }
+    ; long = long-of (length w) _ l (omega arith) }
+
+pub no-data-back : (id : MessageId) (i : ℕ) (b : UrbCompletionNoDataFields) (s : List ℕ) → Bytes s → (n : ℕ) → totalFrom (length s) 0 (piecesOf id (fields.UrbCompletionNoData i b)) ≡ total.Fits n → resultGiven s i (b .urb) ≡ true → Wide32 id (fields.UrbCompletionNoData i b) → Back id (fields.UrbCompletionNoData i b) s i 1 0x102
+unfolding askedOf readingOf piecesOf fieldsIn numbersOf partsOf urbCompletionNoDataOf completionOf completionWith completedOf urbCompletionIn noDataIn
+no-data-back id i b s bytes n t given wide =
+    let w = bytesOf id (fields.UrbCompletionNoData i b) s in
+    let p = places s (piecesOf id (fields.UrbCompletionNoData i b)) n bytes t in
+    let b30 = below-30 i (split (interfaceAllowed i) (partAllowed s (b .urb .rest)) given .0) in
+    let h = p .0 (first-below i b30) .0 in
+    let m = p .1 .0 (wide .0) .0 in
+    let f = p .1 .1 .0 (omega arith) .0 in
+    let e3 = p .1 .1 .1 .0 (wide .1 1) .0 in
+    let q = p .1 .1 .1 .1 .0 (eight-small s (b .urb .rest) (split (interfaceAllowed i) (partAllowed s (b .urb .rest)) given .1)) .0 in
+    let y20 = p .1 .1 .1 .1 .1 .0 (eight-small s (b .urb .rest) (split (interfaceAllowed i) (partAllowed s (b .urb .rest)) given .1)) .1 in
+    let e6 = p .1 .1 .1 .1 .1 .1 .0 (wide .1 2) .0 in
+    let r7 = p .1 .1 .1 .1 .1 .1 .1 .0 in
+    let e8 = p .1 .1 .1 .1 .1 .1 .1 .1 .0 (wide .1 3) .0 in
+    let e9 = p .1 .1 .1 .1 .1 .1 .1 .1 .1 .0 (wide .1 4) .0 in
+    let l = p .1 .1 .1 .1 .1 .1 .1 .1 .1 .1 .1 in
+    let k = interface-back (wordAt w 0) i h b30 in
+    let x20 : halfAt w 20 ≡ 8 + b .urb .rest .size = y20 ∙ half-same (8 + b .urb .rest .size) (lower (8 + b .urb .rest .size) _ (length w) l (fits-length s _ n t) (omega arith)) in
+    let z : 20 + wordAt w 16 ≡ 28 + b .urb .rest .size = rw q (omega arith) in
+    let o : wordAt w 16 - 8 ≡ b .urb .rest .size = rw q (omega arith) in
+    let z4 : 20 + wordAt w 16 + 4 ≡ 28 + b .urb .rest .size + 4 = ap (λ x. x + 4) z in
+    record
+    { back = record
+      { asks = ap (λ r. asksSome (asksBy (urbCompletionNoDataReading (noDataFrom w r)))) (field-there completion.Fails w 12 4 _ (reach (length w) (28 + b .urb .rest .size + 4 + 4 + 0) 16 l (omega arith)) ∙ (field-there completion.Fails w 16 4 _ (reach (length w) (28 + b .urb .rest .size + 4 + 4 + 0) 20 l (omega arith)) ∙ (atLeast-there completion.Fails 8 (wordAt w 16) 16 _ (rw q (omega arith)) ∙ (field-there completion.Fails w 20 (wordAt w 16) _ (rw q (reach (length w) (28 + b .urb .rest .size + 4 + 4 + 0) (20 + (8 + b .urb .rest .size)) l (omega arith))) ∙ (agrees-there completion.Fails (eqb (halfAt w 20) (wordAt w 16)) 20 _ (eq-eqb (halfAt w 20) (wordAt w 16) (x20 ∙ sym q)) ∙ (field-there completion.Fails w (20 + wordAt w 16) 4 _ (rw q (reach (length w) (28 + b .urb .rest .size + 4 + 4 + 0) (20 + (8 + b .urb .rest .size) + 4) l (omega arith))) ∙ (field-there completion.Fails w (20 + wordAt w 16 + 4) 4 _ (rw q (reach (length w) (28 + b .urb .rest .size + 4 + 4 + 0) (20 + (8 + b .urb .rest .size) + 4 + 4) l (omega arith)))))))))) ∙ (ap (λ r. asksSome (asksBy (urbCompletionNoDataReading r))) (ended-there urbCompletionNoData.Fails w (20 + wordAt w 16 + 8) _ (rw q (within (length w) (28 + b .urb .rest .size + 4 + 4 + 0) (20 + (8 + b .urb .rest .size) + 8) l (omega arith)))))
+      ; message = message-back _ id m
+      ; numbers = same k (same e3 (same e6 (same (ap (λ x. wordAt w x) z ∙ e8) (same (ap (λ x. wordAt w x) z4 ∙ e9) refl))))
+      ; parts = same (ap (λ x. cut w (record { start = 28; size = x })) o ∙ r7) refl }
+    ; head = record { first = h; third = f }
+    ; long = long-of (length w) _ l (omega arith) }

@@ -16,7 +16,7 @@ use Rattle.pieces.specs.declared.piece.Piece.{Piece}
 use Rattle.pieces.specs.declared.piece.Piece.the-variants.{Nothing, Word, Run, Interfaces}
 use Rattle.pieces.specs.declared.piece.Row.{Row}
 use Rattle.pieces.specs.declared.piece.Total.the-variants as total
-use Rattle.pieces.proofs.Pieces.{piece-length, total-first}
+use Rattle.pieces.proofs.Pieces.{encode-length, piece-length, total-first}
 use Rattle.writer_laws.specs.Layout.{Bytes}
 use Rattle.writer_laws.specs.Places.{Places, RowsStand, Stands, WordStands}
 use Rattle.writer_laws.proofs.Cleared.{interfaceRow, pipeRow}
@@ -117,3 +117,12 @@ places-behind pre s w at sum m (p ∷ ps) b e l t =
 
 pub places : (s : List ℕ) (ps : List Piece) (m : ℕ) → Bytes s → totalFrom (length s) 0 ps ≡ total.Fits m → Places (encode s ps) s 0 ps
 places s ps m b t = places-behind [] s (encode s ps) 0 0 m ps b refl refl t
+
+-- pieces that fit make up at most 65,535 bytes
+total-below : (n sum m : ℕ) (ps : List Piece) → sum ≤ 65535 → totalFrom n sum ps ≡ total.Fits m → m ≤ 65535
+unfolding totalFrom
+total-below n sum m [] h t = let e : sum ≡ m = cc in omega arith
+total-below n sum m (p ∷ ps) h t = let q = total-first n sum p ps m t in total-below n (sum + sizeOf p) m ps (omega (arith, q .1)) (q .2)
+
+pub fits-length : (s : List ℕ) (ps : List Piece) (m : ℕ) → totalFrom (length s) 0 ps ≡ total.Fits m → length (encode s ps) ≤ 65535
+fits-length s ps m t = omega (arith, encode-length s ps 0 m t, total-below (length s) 0 m ps (omega arith) t)
