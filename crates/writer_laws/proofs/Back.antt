@@ -120,13 +120,13 @@ some false a e f = e
 pub message-back : (w : ℕ) (id : MessageId) → w ≡ id .0 → messageIn w ≡ id
 message-back w id e = rw e
 
-interface-back : (w i : ℕ) → w ≡ i + 0x4000_0000 * 1 → i < 0x4000_0000 → w % 0x4000_0000 ≡ i
+pub interface-back : (w i : ℕ) → w ≡ i + 0x4000_0000 * 1 → i < 0x4000_0000 → w % 0x4000_0000 ≡ i
 interface-back w i e h = omega arith
 
-below-30 : (i : ℕ) → interfaceAllowed i ≡ true → i < 0x4000_0000
+pub below-30 : (i : ℕ) → interfaceAllowed i ≡ true → i < 0x4000_0000
 below-30 i e = ltb-true i 0x4000_0000 (split (leb 4 i) (ltb i 0x4000_0000) e .1)
 
-first-below : (i : ℕ) → i < 0x4000_0000 → i + 0x4000_0000 * 1 < 4294967296
+pub first-below : (i : ℕ) → i < 0x4000_0000 → i + 0x4000_0000 * 1 < 4294967296
 first-below i h = omega arith
 
 -- what a message's fields, its header and its length are
@@ -275,29 +275,29 @@ retract-back id i b s bytes n t given wide =
     ; head = record { first = h; third = f }
     ; long = omega (arith, l) }
 
-long-of : (l k : ℕ) → l ≡ k → 12 ≤ k → 12 ≤ l
+pub long-of : (l k : ℕ) → l ≡ k → 12 ≤ k → 12 ≤ l
 long-of l k e h = subst (λ x. 12 ≤ x) (sym e) h
 
-reach : (l k at : ℕ) → l ≡ k → at ≤ k → at ≤ l
+pub reach : (l k at : ℕ) → l ≡ k → at ≤ k → at ≤ l
 reach l k at e h = subst (λ x. at ≤ x) (sym e) h
 
-within : (l k at : ℕ) → l ≡ k → k ≤ at → l ≤ at
+pub within : (l k at : ℕ) → l ≡ k → k ≤ at → l ≤ at
 within l k at e h = subst (λ x. x ≤ at) (sym e) h
 
 unzero : (a b : Bool) → cond a false b ≡ true → (a ≡ false) × (b ≡ true)
 unzero true b e = (sym e, refused e)
 unzero false b e = (refl, e)
 
-half-same : (x : ℕ) → x < 65536 → x % 65536 ≡ x
+pub half-same : (x : ℕ) → x < 65536 → x % 65536 ≡ x
 half-same x h = omega arith
 
-lower : (x k l : ℕ) → l ≡ k → l ≤ 65535 → x ≤ k → x < 65536
+pub lower : (x k l : ℕ) → l ≡ k → l ≤ 65535 → x ≤ k → x < 65536
 lower x k l e h g = omega arith
 
 eight-small : (s : List ℕ) (p : Part) → partAllowed s p ≡ true → 8 + p .size < 4294967296
 eight-small s p e = let q = lies s p e .1 in omega arith
 
-part-small : (s : List ℕ) (p : Part) → partAllowed s p ≡ true → p .size < 4294967296
+pub part-small : (s : List ℕ) (p : Part) → partAllowed s p ≡ true → p .size < 4294967296
 part-small s p e = let q = lies s p e .1 in omega arith
 
 pub no-callback-back : (id : MessageId) (i : ℕ) (count : ℕ) (s : List ℕ) → Bytes s → (n : ℕ) → totalFrom (length s) 0 (piecesOf id (fields.RegisterRequestCallback i (record { count = count; completion = completes.Nothing }))) ≡ total.Fits n → (interfaceAllowed i && eqb count 0) ≡ true → Wide32 id (fields.RegisterRequestCallback i (record { count = count; completion = completes.Nothing })) → Back id (fields.RegisterRequestCallback i (record { count = count; completion = completes.Nothing })) s i 1 0x101

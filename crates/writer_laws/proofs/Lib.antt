@@ -8,3 +8,4 @@ pub mod RebuiltTransfer
 pub mod Headers
 pub mod Again
 pub mod Back
+pub mod BackDevice

@@ -44,7 +44,7 @@ use Rattle.writer_laws.specs.Rebuilt.{Rebuilt, asksSome, fourthText, sec
 use Rattle.writer_laws.proofs.Rebuilt.{Headed, asked, both, head-cut, holds, part-in, reaches, refused}
 
 -- the text whose count stands at a place
-abbrev textAt : List ℕ → ℕ → Text
+abbrev pub textAt : List ℕ → ℕ → Text
 textAt m at = record { count = wordAt m at; units = record { start = at + 4; size = 2 * wordAt m at }; last = lastUnit m (wordAt m at) (at + 4 + 2 * wordAt m at); prior = priorUnit m (wordAt m at) (at + 4 + 2 * wordAt m at) }
 
 -- the last units of so many bytes are those of so many units
@@ -57,7 +57,7 @@ prior-same zero = refl
 prior-same (suc zero) = refl
 prior-same (suc (suc n)) = rw (le-ltb (2 * suc (suc n)) 4 (omega arith), le-ltb (suc (suc n)) 2 (omega arith))
 
-doubled : (n : ℕ) → 2 * n / 2 ≡ n
+pub doubled : (n : ℕ) → 2 * n / 2 ≡ n
 doubled n = omega arith
 
 unit-at : (m : List ℕ) (t u : Bool) (a b : ℕ) → t ≡ u → (u ≡ false → a ≡ b) → cond t 0 (halfAt m a) ≡ cond u 0 (halfAt m b)
@@ -80,7 +80,7 @@ exactly at l h k = omega arith
 text-fields : (a b c d : ℕ) (a' c' d' : ℕ) (p : Part) → a ≡ a' → c ≡ c' → d ≡ d' → _≡_ {A = Text} (record { count = a; units = p; last = c; prior = d }) (record { count = a'; units = p; last = c'; prior = d' })
 text-fields a b c d a' c' d' p e f g = rw (e, f, g)
 
-text-same : (m : List ℕ) (at : ℕ) → textGiven m (record { start = at + 4; size = 2 * wordAt m at }) ≡ textAt m at
+pub text-same : (m : List ℕ) (at : ℕ) → textGiven m (record { start = at + 4; size = 2 * wordAt m at }) ≡ textAt m at
 text-same m at =
     text-fields _ 0 _ _ _ _ _ (record { start = at + 4; size = 2 * wordAt m at }) (doubled (wordAt m at))
     (unit-at m (ltb (2 * wordAt m at) 2) (eqb (wordAt m at) 0) _ _ (last-same (wordAt m at)) (λ e. back-2 (at + 4) (wordAt m at) (eqb-false (wordAt m at) 0 e)))
@@ -123,7 +123,7 @@ module _ (m : List ℕ) (fits : length m ≤ 65535) where
   unfolding textOf unitsOf
   text-by P bad at next = field-by text.Fails P bad m at 4 _ λ a. field-by text.Fails P bad m (at + 4) (2 * wordAt m at) _ λ b. next (holds (at + 4) (2 * wordAt m at) (length m) (reaches at (length m) a) b)
 
-  abbrev second : ℕ → ℕ
+  abbrev pub second : ℕ → ℕ
   second at = at + 4 + 2 * wordAt m at
 
   pair-by : (P : PairRead → Type 0) → ((f : Fault) → P (pair.Fails f)) → (at : ℕ)
@@ -132,13 +132,13 @@ module _ (m : List ℕ) (fits : length m ≤ 65535) where
   pair-by P bad at next =
       text-by (λ r. P (pairFrom m r)) bad at λ a. text-by (λ r. P (pairWith (textAt m at) r)) bad (second at) λ b. next a b
 
-  abbrev third : ℕ
+  abbrev pub third : ℕ
   third = second (second 20)
 
-  abbrev last : ℕ
+  abbrev pub last : ℕ
   last = second (second third)
 
-  abbrev found : AddDevice
+  abbrev pub found : AddDevice
   found = record { count = wordAt m 12; device = interfaceIn (wordAt m 16); top = maskIn (wordAt m 16); instance = textAt m 20; hardware = textAt m (second 20); compatible = textAt m third; container = textAt m (second third); capabilities = record { size = wordAt m last; bus = wordAt m (last + 4); usbdi = wordAt m (last + 8); usb = wordAt m (last + 12); host = wordAt m (last + 16); speed = wordAt m (last + 20); jitter = wordAt m (last + 24) } }
 
   rebuilt-found : Headed 1 1 0x101 m → second 20 ≤ length m → third ≤ length m → second third ≤ length m → last ≤ length m → length m ≡ last + 28 → addDeviceAllowed found ≡ true → Rebuilt kind.AddDevice m
