@@ -63,7 +63,7 @@ text-at : (m : List ℕ) (at n end : ℕ) → 2 * wordAt m at ≡ n → at + 4 +
 text-at m at n end e f h = text-there m at (subst (λ x. at + 4 + x ≤ length m) (sym e) (subst (λ x. x ≤ length m) (sym f) h)) ∙ ap (λ x. text.Fits (textAt m at) x) (ap (λ x. at + 4 + x) e ∙ f)
 
 -- the same bytes in two parts: the units that a text ends in are the same
-byte-in : (w s : List ℕ) (p q : Part) (o : ℕ) → p .size ≡ q .size → cut w p ≡ cut s q → o < p .size → byteAt w (p .start + o) ≡ byteAt s (q .start + o)
+pub byte-in : (w s : List ℕ) (p q : Part) (o : ℕ) → p .size ≡ q .size → cut w p ≡ cut s q → o < p .size → byteAt w (p .start + o) ≡ byteAt s (q .start + o)
 byte-in w s p q o z e h =
     let a : byteAt (cut w p) o ≡ byteAt w (p .start + o) = getD-take (p .size) (drop (p .start) w) o 0 h ∙ getD-drop (p .start) w o 0 in
     let b : byteAt (cut s q) o ≡ byteAt s (q .start + o) = getD-take (q .size) (drop (q .start) s) o 0 (subst (λ x. o < x) z h) ∙ getD-drop (q .start) s o 0 in

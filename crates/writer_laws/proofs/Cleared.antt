@@ -49,7 +49,7 @@ digits n a b c d e ha hb hc hd =
 joined : (m : List ℕ) (at a b : ℕ) → bytesFrom m at a ++ bytesFrom m (at + a) b ≡ bytesFrom m at (a + b)
 joined m at a b = rw (take-add a b (drop at m), drop-drop a at m)
 
-pair : (a a' b b' : List ℕ) → a ≡ a' → b ≡ b' → a ++ b ≡ a' ++ b'
+pub pair : (a a' b b' : List ℕ) → a ≡ a' → b ≡ b' → a ++ b ≡ a' ++ b'
 pair a a' b b' p q = rw (p, q)
 
 glued : (a a' b b' c c' : List ℕ) → a ≡ a' → b ≡ b' → c ≡ c' → a ++ (b ++ c) ≡ a' ++ (b' ++ c')

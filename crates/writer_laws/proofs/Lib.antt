@@ -9,3 +9,4 @@ pub mod Headers
 pub mod Again
 pub mod Back
 pub mod BackDevice
+pub mod BackUrb

@@ -19,17 +19,17 @@ use Rattle.pieces.specs.declared.piece.Total.the-variants as total
 use Rattle.pieces.proofs.Pieces.{encode-length, piece-length, total-first}
 use Rattle.writer_laws.specs.Layout.{Bytes}
 use Rattle.writer_laws.specs.Places.{Places, RowsStand, Stands, WordStands}
-use Rattle.writer_laws.proofs.Cleared.{interfaceRow, pipeRow}
+use Rattle.writer_laws.proofs.Cleared.{interfaceRow, pair, pipeRow}
 
 two : (n : ℕ) → n / 65536 ≡ n / 256 / 256
 two n = sym (div-div-eq-div-mul n 256 256)
 
-three : (n : ℕ) → n / 16777216 ≡ n / 256 / 256 / 256
-three n = sym (div-div-eq-div-mul n 256 65536) ∙ sym (div-div-eq-div-mul (n / 256) 256 256)
+thrice : (n : ℕ) → n / 16777216 ≡ n / 256 / 256 / 256
+thrice n = sym (div-div-eq-div-mul n 256 65536) ∙ sym (div-div-eq-div-mul (n / 256) 256 256)
 
 -- a number of 32 bits is that of its four bytes
 word-back : (n : ℕ) → n < 4294967296 → n % 256 + 256 * (n / 256 % 256) + 65536 * (n / 65536 % 256) + 16777216 * (n / 16777216 % 256) ≡ n
-word-back n h = rw (two n, three n) (let l : n / 256 / 256 / 256 < 256 = omega arith in omega arith)
+word-back n h = rw (two n, thrice n) (let l : n / 256 / 256 / 256 < 256 = omega arith in omega arith)
 
 half-back : (n : ℕ) → n % 256 + 256 * (n / 256 % 256) ≡ n % 65536
 half-back n = omega arith
@@ -62,6 +62,13 @@ four-below a b c d ha hb hc hd = omega arith
 
 two-below : (a b : ℕ) → a < 256 → b < 256 → a + 256 * b < 4294967296
 two-below a b ha hb = omega arith
+
+-- three words in a row
+three : (pre : List ℕ) (x y z : ℕ) (rest w : List ℕ) (at : ℕ) → w ≡ pre ++ ((wordBytes x ++ (wordBytes y ++ wordBytes z)) ++ rest) → at ≡ length pre → x < 4294967296 → y < 4294967296 → z < 4294967296 → WordStands w at x × WordStands w (at + 4) y × WordStands w (at + 8) z
+three pre x y z rest w at e l hx hy hz =
+    (word-behind pre x (wordBytes y ++ (wordBytes z ++ rest)) w at e l hx,
+    word-behind (pre ++ wordBytes x) y (wordBytes z ++ rest) w (at + 4) (e ∙ sym (append-assoc pre (wordBytes x) (wordBytes y ++ (wordBytes z ++ rest)))) (rw (length-append, l)) hy,
+    word-behind (pre ++ (wordBytes x ++ wordBytes y)) z rest w (at + 8) (e ∙ sym (append-assoc pre (wordBytes x ++ wordBytes y) (wordBytes z ++ rest))) (rw (length-append, l)) hz)
 
 module _ (s : List ℕ) (bytes : Bytes s) where
   pub word-below : (x : ℕ) → wordAt s x < 4294967296
@@ -98,11 +105,33 @@ module _ (s : List ℕ) (bytes : Bytes s) where
           (rw (xa, ya) (one .1 ∙ f .1), rw (xa, ya) (two .0 ∙ f .2))
       rows i (suc j) x y ex ey h = i j x y (omega arith) (omega arith) (omega arith)
 
+  -- a row that was written, read as a row again
+  row-same : (pre rest w : List ℕ) (at a pipes : ℕ) → w ≡ pre ++ (rowBytes (rowOf s a pipes) ++ rest) → at ≡ length pre → rowOf w at pipes ≡ rowOf s a pipes
+  row-same pre rest w at a pipes e l = go (eqb pipes 0) e
+    where
+      go : (t : Bool) → w ≡ pre ++ (rowBytes (cond t (interfaceRow s a) (pipeRow s a pipes)) ++ rest) → cond t (interfaceRow w at) (pipeRow w at pipes) ≡ cond t (interfaceRow s a) (pipeRow s a pipes)
+      go true e =
+          let q = three pre (wordAt s a) (halfAt s (a + 4)) (wordAt s (a + 8)) rest w at e l (word-below a) (half-below (a + 4)) (word-below (a + 8)) in
+          let x : halfAt w (at + 4) ≡ halfAt s (a + 4) = q .1 .1 ∙ low-half (byteAt s (a + 4)) (byteAt s (a + 4 + 1)) (bytes (a + 4)) (bytes (a + 4 + 1)) in
+          rw (q .0 .0, x, q .2 .0)
+      go false e =
+          let q = three pre (halfAt s a) (wordAt s (a + 4)) (wordAt s (a + 8)) rest w at e l (half-below a) (word-below (a + 4)) (word-below (a + 8)) in
+          let x : halfAt w at ≡ halfAt s a = q .0 .1 ∙ low-half (byteAt s a) (byteAt s (a + 1)) (bytes a) (bytes (a + 1)) in
+          rw (x, q .1 .0, q .2 .0)
+
+  rows-same : (n : ℕ) (pre rest w : List ℕ) (at a pipes : ℕ) → w ≡ pre ++ (interfacesOf s n pipes a ++ rest) → at ≡ length pre → interfacesOf w n pipes at ≡ interfacesOf s n pipes a
+  unfolding interfacesOf
+  rows-same zero pre rest w at a pipes e l = refl
+  rows-same (suc n) pre rest w at a pipes e l =
+      let q = row-same pre (interfacesOf s n (rowOf s a pipes .pipes) (a + 12) ++ rest) w at a pipes (e ∙ ap (λ z. pre ++ z) (append-assoc (rowBytes (rowOf s a pipes)) (interfacesOf s n (rowOf s a pipes .pipes) (a + 12)) rest)) l in
+      pair _ _ _ _ (ap rowBytes q) (ap (λ r. interfacesOf w n (r .pipes) (at + 12)) q ∙
+      rows-same n (pre ++ rowBytes (rowOf s a pipes)) rest w (at + 12) (a + 12) (rowOf s a pipes .pipes) (e ∙ (ap (λ z. pre ++ z) (append-assoc (rowBytes (rowOf s a pipes)) (interfacesOf s n (rowOf s a pipes .pipes) (a + 12)) rest) ∙ sym (append-assoc pre (rowBytes (rowOf s a pipes)) (interfacesOf s n (rowOf s a pipes .pipes) (a + 12) ++ rest)))) (rw (length-append, l)))
+
 stands : (pre s rest w : List ℕ) (at : ℕ) (p : Piece) → Bytes s → w ≡ pre ++ (bytesOf s p ++ rest) → at ≡ length pre → length (bytesOf s p) ≡ sizeOf p → Stands w s at p
 stands pre s rest w at Nothing b e l h = tt
 stands pre s rest w at (Word n) b e l h = λ k. word-behind pre n rest w at e l k
 stands pre s rest w at (Run p) b e l h = cut-behind pre (cut s p) rest w at (p .size) e l (sym h)
-stands pre s rest w at (Interfaces p) b e l h = (cut-behind pre (interfacesOf s (p .size / 12) 0 (p .start)) rest w at (p .size / 12 * 12) e l (sym h), rows-stand s b (p .size / 12) pre rest w at (p .start) 0 e l)
+stands pre s rest w at (Interfaces p) b e l h = (rows-same s b (p .size / 12) pre rest w at (p .start) 0 e l, rows-stand s b (p .size / 12) pre rest w at (p .start) 0 e l)
 
 -- the pieces of a message, whose parts lie in the lent bytes, stand in it one behind the other
 places-behind : (pre s w : List ℕ) (at sum m : ℕ) (ps : List Piece) → Bytes s → w ≡ pre ++ encode s ps → at ≡ length pre → totalFrom (length s) sum ps ≡ total.Fits m → Places w s at ps
