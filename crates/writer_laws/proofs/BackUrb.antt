@@ -232,3 +232,69 @@ module _ (w s : List ℕ) (c : ℕ) (there : 16 + c ≤ length w) where
       nine flag size f h = leb-true 9 size (subst (λ t. cond t (eqb size 0) (leb 9 size) ≡ true) f h)
       start-byte : (at : ℕ) (q : Part) → pieces.cut w (record { start = at; size = q .size }) ≡ pieces.cut s q → 9 ≤ q .size → byteAt w at ≡ byteAt (drop (q .start) s) 0
       start-byte at q e h = let z : at ≡ at + 0 = omega arith in ap (λ y. byteAt w y) z ∙ (byte-in w s (record { start = at; size = q .size }) q 0 refl e (omega arith) ∙ sym (getD-drop (q .start) s 0 0))
+
+  -- a test that refuses was not met
+  unmet : (t : Bool) (a : Stated) (x : Urb) → cond t stated.Nothing a ≡ Is x → (t ≡ false) × (a ≡ Is x)
+  unmet true a x e = nothing e
+  unmet false a x e = (refl, e)
+
+  abbrev Narrow : Structure → Type 0
+  Narrow st = (j : ℕ) → getD (structureNumbers st) j 0 < 4294967296
+
+  low-byte : (flag : ℕ) → ltb 255 flag ≡ false → flag % 256 ≡ flag
+  low-byte flag e = let h = ltb-false 255 flag e in omega arith
+
+  configuration-from : (b : SelectConfigurationFields) (x : Urb) (l : Listed) → listedOf s (b .interfaces) (b .count) ≡ l → configurationBy s b l ≡ Is x
+      → ((pipes : ℕ) → listedOf s (b .interfaces) (b .count) ≡ listed.Pipes pipes → StructureBack 0 (structure.SelectConfiguration b) (urb.SelectConfiguration (record { flag = b .flag; count = b .count; interfaces = b .interfaces; pipes = pipes; descriptor = record { part = b .descriptor; first = byteAt (drop (b .descriptor .start) s) 0; second = byteAt (drop (b .descriptor .start) s) 1 } }))) → StructureBack 0 (structure.SelectConfiguration b) x
+  configuration-from b x listed.Nothing l e k = nothing e
+  configuration-from b x (listed.Pipes pipes) l e k = subst (StructureBack 0 (structure.SelectConfiguration b)) (is-found _ x e) (k pipes l)
+
+  interface-from : (b : SelectInterfaceFields) (x : Urb) (l : Listed) → listedOf s (b .interface) 1 ≡ l → interfaceBy b l ≡ Is x
+      → ((pipes : ℕ) → listedOf s (b .interface) 1 ≡ listed.Pipes pipes → StructureBack 1 (structure.SelectInterface b) (urb.SelectInterface (record { handle = b .handle; interface = b .interface; pipes = pipes }))) → StructureBack 1 (structure.SelectInterface b) x
+  interface-from b x listed.Nothing l e k = nothing e
+  interface-from b x (listed.Pipes pipes) l e k = subst (StructureBack 1 (structure.SelectInterface b)) (is-found _ x e) (k pipes l)
+
+  pub structure-back : (f : ℕ) (st : Structure) (x : Urb) (rest : List Piece) → statedOf s f st ≡ Is x → c ≡ structureSize st → Places w s 24 (structurePieces st ++ rest) → Narrow st → StructureBack f st x
+  unfolding statedOf configurationStated interfaceStated controlStated isochStated
+  structure-back f (structure.SelectConfiguration b) x rest e z p n =
+      let a = held (eqb f 0) (configurationStated s b) x e in
+      let a1 = unmet (ltb 255 (b .flag)) _ x (a .1) in
+      let a2 = held (partAllowed s (b .interfaces)) _ x (a1 .1) in
+      let a3 = held (partAllowed s (b .descriptor)) _ x (a2 .1) in
+      let a4 = held (descriptorSized (b .flag) (b .descriptor .size)) _ x (a3 .1) in
+      subst (λ y. StructureBack y (structure.SelectConfiguration b) x) (sym (eqb-true f 0 (a .0))) (configuration-from b x (listedOf s (b .interfaces) (b .count)) refl (a4 .1)
+      (λ pipes l. configuration-back b pipes z (p .0 (n 0) .3 ∙ low-byte (b .flag) (a1 .0)) (p .1 .0 (n 1) .0) l (a2 .0) (a4 .0) (p .1 .1 .0 .0) (p .1 .1 .0 .1) (p .1 .1 .1 .0)))
+  structure-back f (structure.SelectInterface b) x rest e z p n =
+      let a = held (eqb f 1) (interfaceStated s b) x e in
+      let a1 = held (partAllowed s (b .interface)) _ x (a .1) in
+      subst (λ y. StructureBack y (structure.SelectInterface b) x) (sym (eqb-true f 1 (a .0))) (interface-from b x (listedOf s (b .interface) 1) refl (a1 .1)
+      (λ pipes l. interface-back b pipes z (p .0 (n 0) .0) l (a1 .0) (p .1 .0 .0) (p .1 .0 .1)))
+  structure-back f structure.GetCurrentFrameNumber x rest e z p n =
+      let a = held (eqb f 7) (Is urb.GetCurrentFrameNumber) x e in
+      subst (λ y. StructureBack y structure.GetCurrentFrameNumber x) (sym (eqb-true f 7 (a .0))) (subst (StructureBack 7 structure.GetCurrentFrameNumber) (is-found _ x (a .1)) (frame-back z))
+  structure-back f (structure.PipeRequest b) x rest e z p n = go (eqb f 2) refl e
+    where
+      go : (t : Bool) → eqb f 2 ≡ t → cond t (Is (urb.PipeRequest b)) (cond (eqb f 0x1E) (Is (urb.PipeRequest b)) stated.Nothing) ≡ Is x → StructureBack f (structure.PipeRequest b) x
+      go true g e = subst (StructureBack f (structure.PipeRequest b)) (is-found _ x e) (pipe-back f b z (p .0 (n 0) .0) (inl (eqb-true f 2 g)))
+      go false g e = let a = held (eqb f 0x1E) (Is (urb.PipeRequest b)) x e in subst (StructureBack f (structure.PipeRequest b)) (is-found _ x (a .1)) (pipe-back f b z (p .0 (n 0) .0) (inr (eqb-true f 0x1E (a .0))))
+  structure-back f (structure.BulkOrInterruptTransfer b) x rest e z p n =
+      let a = held (eqb f 9) (Is (urb.BulkOrInterruptTransfer b)) x e in
+      subst (λ y. StructureBack y (structure.BulkOrInterruptTransfer b) x) (sym (eqb-true f 9 (a .0))) (subst (StructureBack 9 (structure.BulkOrInterruptTransfer b)) (is-found _ x (a .1)) (bulk-back b z (p .0 (n 0) .0) (p .1 .0 (n 1) .0)))
+  structure-back f (structure.ControlTransfer b) x rest e z p n =
+      let a = held (eqb f 8) (controlStated s b) x e in
+      let a1 = held (partAllowed s (b .setup)) _ x (a .1) in
+      let a2 = held (eqb (b .setup .size) 8) _ x (a1 .1) in
+      let y = eqb-true (b .setup .size) 8 (a2 .0) in
+      subst (λ y. StructureBack y (structure.ControlTransfer b) x) (sym (eqb-true f 8 (a .0))) (subst (StructureBack 8 (structure.ControlTransfer b)) (is-found _ x (a2 .1)) (control-back b (z ∙ ap (λ k. 16 + k) y) y (p .0 (n 0) .0) (p .1 .0 (n 1) .0) (p .1 .1 .0)))
+  structure-back f (structure.IsochTransfer b) x rest e z p n =
+      let a = held (eqb f 10) (isochStated s b) x e in
+      let a1 = held (partAllowed s (b .list)) _ x (a .1) in
+      let a2 = held (eqb (b .list .size % 12) 0) _ x (a1 .1) in
+      let y = twelve (b .list .size) (eqb-true (b .list .size % 12) 0 (a2 .0)) in
+      subst (λ y. StructureBack y (structure.IsochTransfer b) x) (sym (eqb-true f 10 (a .0))) (subst (StructureBack 10 (structure.IsochTransfer b)) (is-found _ x (a2 .1))
+      (isoch-back b (b .list .size / 12) y z (p .0 (n 0) .0) (p .1 .0 (n 1) .0) (p .1 .1 .0 (n 2) .0) (p .1 .1 .1 .0 (small (b .list) (a1 .0)) .0) (p .1 .1 .1 .1 .0 (n 3) .0) (p .1 .1 .1 .1 .1 .0)))
+    where
+      twelve : (y : ℕ) → y % 12 ≡ 0 → y ≡ 12 * (y / 12)
+      twelve y e = omega arith
+      small : (q : Part) → partAllowed s q ≡ true → q .size / 12 < 4294967296
+      small q e = let h = lies s q e .1 in omega arith
