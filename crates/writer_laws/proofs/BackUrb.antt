@@ -55,16 +55,21 @@ use Rattle.writer_laws.proofs.Walks.{along, half-take, word-take}
 use Rattle.writer_laws.proofs.Back.{agrees-there, atLeast-there, field-there, same}
 use Rattle.writer_laws.proofs.BackDevice.{byte-in}
 
-nothing : {A : Type 0} {x : Urb} → stated.Nothing ≡ Is x → A
+pub nothing : {A : Type 0} {x : Urb} → stated.Nothing ≡ Is x → A
 nothing e = absurd (omega (arith, zero-one e))
   where
     zero-one : {x : Urb} → stated.Nothing ≡ Is x → _≡_ {A = ℕ} 0 1
     zero-one e = cc
 
 -- a test that led to a structure held
-held : (t : Bool) (a : Stated) (x : Urb) → cond t a stated.Nothing ≡ Is x → (t ≡ true) × (a ≡ Is x)
+pub held : (t : Bool) (a : Stated) (x : Urb) → cond t a stated.Nothing ≡ Is x → (t ≡ true) × (a ≡ Is x)
 held true a x e = (refl, e)
 held false a x e = (nothing e, nothing e)
+
+-- a test that refuses was not met
+pub unmet : (t : Bool) (a : Stated) (x : Urb) → cond t stated.Nothing a ≡ Is x → (t ≡ false) × (a ≡ Is x)
+unmet true a x e = nothing e
+unmet false a x e = (refl, e)
 
 is-found : (x y : Urb) → Is x ≡ Is y → x ≡ y
 is-found x y e = cc
@@ -232,11 +237,6 @@ module _ (w s : List ℕ) (c : ℕ) (there : 16 + c ≤ length w) where
       nine flag size f h = leb-true 9 size (subst (λ t. cond t (eqb size 0) (leb 9 size) ≡ true) f h)
       start-byte : (at : ℕ) (q : Part) → pieces.cut w (record { start = at; size = q .size }) ≡ pieces.cut s q → 9 ≤ q .size → byteAt w at ≡ byteAt (drop (q .start) s) 0
       start-byte at q e h = let z : at ≡ at + 0 = omega arith in ap (λ y. byteAt w y) z ∙ (byte-in w s (record { start = at; size = q .size }) q 0 refl e (omega arith) ∙ sym (getD-drop (q .start) s 0 0))
-
-  -- a test that refuses was not met
-  unmet : (t : Bool) (a : Stated) (x : Urb) → cond t stated.Nothing a ≡ Is x → (t ≡ false) × (a ≡ Is x)
-  unmet true a x e = nothing e
-  unmet false a x e = (refl, e)
 
   abbrev Narrow : Structure → Type 0
   Narrow st = (j : ℕ) → getD (structureNumbers st) j 0 < 4294967296

@@ -10,3 +10,4 @@ pub mod Again
 pub mod Back
 pub mod BackDevice
 pub mod BackUrb
+pub mod BackTransfer
