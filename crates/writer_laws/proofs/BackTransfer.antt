@@ -326,3 +326,38 @@ in-back id i b s bytes n t given wide =
       ; parts = rw (q .reads) (q .parts) }
     ; head = record { first = h; third = f }
     ; long = long-of (length w) _ (q .long) (omega arith) }
+
+pub out-back : (id : MessageId) (i : ℕ) (b : TransferOutFields) (s : List ℕ) → Bytes s → (n : ℕ) → pieces.totalFrom (length s) 0 (piecesOf id (fields.TransferOutRequest i b)) ≡ total.Fits n → transferOutGiven s i b ≡ true → Wide32 id (fields.TransferOutRequest i b) → Back id (fields.TransferOutRequest i b) s i 1 0x106
+unfolding askedOf readingOf piecesOf fieldsIn transferOut numbersOf partsOf transferOutGiven transferOutRequestOf transferOf transferWith outputOf outgoingOf transferOutRequestAllowed
+out-back id i b s bytes n t given wide =
+    let w = bytesOf id (fields.TransferOutRequest i b) s in
+    let p = places s (piecesOf id (fields.TransferOutRequest i b)) n bytes t in
+    let st = statedOf s (b .urb .function) (b .urb .structure) in
+    let g0 = split (interfaceAllowed i) (requestAllowed (b .urb .request) && (partAllowed s (b .output) && outgoingBy b st)) given in
+    let g1 = split (requestAllowed (b .urb .request)) (partAllowed s (b .output) && outgoingBy b st) (g0 .1) in
+    let g2 = split (partAllowed s (b .output)) (outgoingBy b st) (g1 .1) in
+    let x = outgoing-x b st (g2 .1) in
+    let b30 = below-30 i (g0 .0) in
+    let h = p .0 (first-below i b30) .0 in
+    let m = p .1 .0 (wide .0) .0 in
+    let f = p .1 .1 .0 (omega arith) .0 in
+    let d = b .output .size in
+    let q = kept w s (b .urb) d (b .output) (x .0) (fits-length s _ n t) (x .1) (ltb-true (b .urb .request .0) 0x8000_0000 (g1 .0)) (part-small s (b .output) (g2 .0)) (λ j. wide .1 (suc (suc (suc (suc j))))) (p .1 .1 .1) in
+    let c = structureSize (b .urb .structure) in
+    let z : wordAt w (16 + wordAt w 12) ≡ d = ap (λ y. wordAt w (16 + y)) (q .cb) ∙ q .last in
+    let a1 = split (urbAllowed (x .0)) (not (onlyIn (x .0)) && cond (b .urb .noack) (mayNoAck (x .0)) true) (x .2) in
+    let a2 = split (not (onlyIn (x .0))) (cond (b .urb .noack) (mayNoAck (x .0)) true) (a1 .1) in
+    let allowed : transferOutRequestAllowed (record { urb = record { size = structureSize (b .urb .structure); function = b .urb .function; request = b .urb .request; noack = b .urb .noack; urb = q .found }; size = wordAt w (16 + wordAt w 12); output = record { start = 16 + wordAt w 12 + 4; size = wordAt w (16 + wordAt w 12) } }) ≡ true = both {a = urbAllowed (q .found)} (q .allowed ∙ a1 .0) (both {a = not (onlyIn (q .found))} (ap not (q .only) ∙ a2 .0) (rw (q .mayno) (a2 .1))) in
+    record
+    { back = record
+      { asks = ap (λ r. asksSome (asksBy (transferOutRequestReading (outgoingFrom w r))))
+          (field-there transfer.Fails w 12 4 _ (reach-16 w c d (q .cb) (q .long) (eight (b .urb .structure))) ∙ (atLeast-there transfer.Fails 8 (wordAt w 12) 12 _ (rw (q .cb) (eight (b .urb .structure))) ∙
+          (field-there transfer.Fails w 16 (wordAt w 12) _ (urb-there w c d (q .cb) (q .long) (eight (b .urb .structure))) ∙ (ap (transferFrom w (16 + wordAt w 12)) (q .reads) ∙ field-there transfer.Fails w (16 + wordAt w 12) 4 _ (size-there w c d (q .cb) (q .long) (eight (b .urb .structure))))))) ∙
+          (ap (λ r. asksSome (asksBy (transferOutRequestReading r))) (field-there transferOutRequest.Fails w (16 + wordAt w 12 + 4) (wordAt w (16 + wordAt w 12)) _ (data-there w c d (q .cb) (q .long) (eight (b .urb .structure)) _ z) ∙
+          (filled-there transferOutRequest.Fails (16 + c) (16 + wordAt w 12) _ (filled-up w c d (q .cb) (q .long) (eight (b .urb .structure))) ∙ ended-there transferOutRequest.Fails w (16 + wordAt w 12 + 4 + wordAt w (16 + wordAt w 12)) _ (data-ends w c d (q .cb) (q .long) (eight (b .urb .structure)) _ z))) ∙
+          some (transferOutRequestAllowed (record { urb = record { size = structureSize (b .urb .structure); function = b .urb .function; request = b .urb .request; noack = b .urb .noack; urb = q .found }; size = wordAt w (16 + wordAt w 12); output = record { start = 16 + wordAt w 12 + 4; size = wordAt w (16 + wordAt w 12) } })) _ allowed refl)
+      ; message = message-back _ id m
+      ; numbers = same (interface-back (wordAt w 0) i h b30) (rw (q .reads) (urb-same (b .urb .function) (b .urb .request .0) (b .urb .noack) _ _ (q .numbers)))
+      ; parts = same (ap (λ y. pieces.cut w (record { start = 16 + y + 4; size = wordAt w (16 + wordAt w 12) })) (q .cb) ∙ (ap (λ y. pieces.cut w (record { start = 16 + c + 4; size = y })) z ∙ q .output)) (rw (q .reads) (q .parts)) }
+    ; head = record { first = h; third = f }
+    ; long = long-of (length w) _ (q .long) (omega arith) }
