@@ -57,7 +57,10 @@ use Rattle.wire.specs.TransferOutRequest.{outgoingFrom, outgoingOf, transferOut
 use Rattle.wire.specs.declared.transfer.TransferRead.the-variants as transfer
 use Rattle.wire.specs.declared.transfer_in_request.TransferInRequestRead.the-variants as transferInRequest
 use Rattle.wire.specs.declared.transfer_out_request.TransferOutRequestRead.the-variants as transferOutRequest
+use Rattle.answers.specs.declared.kind.Kind.the-variants as kind
 use Rattle.wire.specs.Message.{askedOf, asksBy, emptyPart}
+use Rattle.wire.specs.declared.message.Request.{Request}
+use Rattle.wire.specs.declared.message.Asked.the-variants as asks
 use Rattle.wire.specs.Reading.{readingOf, transferInRequestReading, transferOutRequestReading}
 use Rattle.pieces.specs.declared.piece.Piece.the-variants.{Word, Run}
 use Rattle.pieces.specs.declared.piece.Total.the-variants as total
@@ -327,7 +330,7 @@ in-back id i b s bytes n t given wide =
     ; head = record { first = h; third = f }
     ; long = long-of (length w) _ (q .long) (omega arith) }
 
-pub out-back : (id : MessageId) (i : ℕ) (b : TransferOutFields) (s : List ℕ) → Bytes s → (n : ℕ) → pieces.totalFrom (length s) 0 (piecesOf id (fields.TransferOutRequest i b)) ≡ total.Fits n → transferOutGiven s i b ≡ true → Wide32 id (fields.TransferOutRequest i b) → Back id (fields.TransferOutRequest i b) s i 1 0x106
+pub out-back : (id : MessageId) (i : ℕ) (b : TransferOutFields) (s : List ℕ) → Bytes s → (n : ℕ) → pieces.totalFrom (length s) 0 (piecesOf id (fields.TransferOutRequest i b)) ≡ total.Fits n → transferOutGiven s i b ≡ true → Wide32 id (fields.TransferOutRequest i b) → Back id (fields.TransferOutRequest i b) s i 1 0x106 × (r : Request) × (askedOf kind.TransferOutRequest (bytesOf id (fields.TransferOutRequest i b) s) ≡ asks.TransferOut r) × (r .noack ≡ b .urb .noack)
 unfolding askedOf readingOf piecesOf fieldsIn transferOut numbersOf partsOf transferOutGiven transferOutRequestOf transferOf transferWith outputOf outgoingOf transferOutRequestAllowed
 out-back id i b s bytes n t given wide =
     let w = bytesOf id (fields.TransferOutRequest i b) s in
@@ -348,16 +351,17 @@ out-back id i b s bytes n t given wide =
     let a1 = split (urbAllowed (x .0)) (not (onlyIn (x .0)) && cond (b .urb .noack) (mayNoAck (x .0)) true) (x .2) in
     let a2 = split (not (onlyIn (x .0))) (cond (b .urb .noack) (mayNoAck (x .0)) true) (a1 .1) in
     let allowed : transferOutRequestAllowed (record { urb = record { size = structureSize (b .urb .structure); function = b .urb .function; request = b .urb .request; noack = b .urb .noack; urb = q .found }; size = wordAt w (16 + wordAt w 12); output = record { start = 16 + wordAt w 12 + 4; size = wordAt w (16 + wordAt w 12) } }) ≡ true = both {a = urbAllowed (q .found)} (q .allowed ∙ a1 .0) (both {a = not (onlyIn (q .found))} (ap not (q .only) ∙ a2 .0) (rw (q .mayno) (a2 .1))) in
-    record
-    { back = record
-      { asks = ap (λ r. asksSome (asksBy (transferOutRequestReading (outgoingFrom w r))))
+    let asked : askedOf kind.TransferOutRequest w ≡ asks.TransferOut (record { request = b .urb .request; size = wordAt w (16 + wordAt w 12); noack = b .urb .noack; payload = record { start = 16 + wordAt w 12 + 4; size = wordAt w (16 + wordAt w 12) } }) = ap (λ r. asksBy (transferOutRequestReading (outgoingFrom w r)))
           (field-there transfer.Fails w 12 4 _ (reach-16 w c d (q .cb) (q .long) (eight (b .urb .structure))) ∙ (atLeast-there transfer.Fails 8 (wordAt w 12) 12 _ (rw (q .cb) (eight (b .urb .structure))) ∙
           (field-there transfer.Fails w 16 (wordAt w 12) _ (urb-there w c d (q .cb) (q .long) (eight (b .urb .structure))) ∙ (ap (transferFrom w (16 + wordAt w 12)) (q .reads) ∙ field-there transfer.Fails w (16 + wordAt w 12) 4 _ (size-there w c d (q .cb) (q .long) (eight (b .urb .structure))))))) ∙
-          (ap (λ r. asksSome (asksBy (transferOutRequestReading r))) (field-there transferOutRequest.Fails w (16 + wordAt w 12 + 4) (wordAt w (16 + wordAt w 12)) _ (data-there w c d (q .cb) (q .long) (eight (b .urb .structure)) _ z) ∙
+          (ap (λ r. asksBy (transferOutRequestReading r)) (field-there transferOutRequest.Fails w (16 + wordAt w 12 + 4) (wordAt w (16 + wordAt w 12)) _ (data-there w c d (q .cb) (q .long) (eight (b .urb .structure)) _ z) ∙
           (filled-there transferOutRequest.Fails (16 + c) (16 + wordAt w 12) _ (filled-up w c d (q .cb) (q .long) (eight (b .urb .structure))) ∙ ended-there transferOutRequest.Fails w (16 + wordAt w 12 + 4 + wordAt w (16 + wordAt w 12)) _ (data-ends w c d (q .cb) (q .long) (eight (b .urb .structure)) _ z))) ∙
-          some (transferOutRequestAllowed (record { urb = record { size = structureSize (b .urb .structure); function = b .urb .function; request = b .urb .request; noack = b .urb .noack; urb = q .found }; size = wordAt w (16 + wordAt w 12); output = record { start = 16 + wordAt w 12 + 4; size = wordAt w (16 + wordAt w 12) } })) _ allowed refl)
+          rw allowed) in
+    (record
+    { back = record
+      { asks = ap asksSome asked
       ; message = message-back _ id m
       ; numbers = same (interface-back (wordAt w 0) i h b30) (rw (q .reads) (urb-same (b .urb .function) (b .urb .request .0) (b .urb .noack) _ _ (q .numbers)))
       ; parts = same (ap (λ y. pieces.cut w (record { start = 16 + y + 4; size = wordAt w (16 + wordAt w 12) })) (q .cb) ∙ (ap (λ y. pieces.cut w (record { start = 16 + c + 4; size = y })) z ∙ q .output)) (rw (q .reads) (q .parts)) }
     ; head = record { first = h; third = f }
-    ; long = long-of (length w) _ (q .long) (omega arith) }
+    ; long = long-of (length w) _ (q .long) (omega arith) }, (record { request = b .urb .request; size = wordAt w (16 + wordAt w 12); noack = b .urb .noack; payload = record { start = 16 + wordAt w 12 + 4; size = wordAt w (16 + wordAt w 12) } }), asked, refl)

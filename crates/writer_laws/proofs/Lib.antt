@@ -11,3 +11,4 @@ pub mod Back
 pub mod BackDevice
 pub mod BackUrb
 pub mod BackTransfer
+pub mod Taken

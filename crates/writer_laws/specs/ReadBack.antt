@@ -2,13 +2,13 @@
 use Prim.Native.Nat.{ℕ, _/_, _<_}
 use mathlib.Core.Path.{_≡_}
 use mathlib.Core.List.{List, [], _∷_, _++_}
-use mathlib.Core.Bool.{Bool, true, cond}
+use mathlib.Core.Bool.{Bool, true, false, cond}
 use lib.ListN.{getD}
+use lib.Dec.{eqb}
 use Rattle.words.specs.declared.layout.Part.{Part}
 use Rattle.answers.specs.declared.kind.Kind.{Kind}
 use Rattle.answers.specs.declared.kind.Kind.the-variants as kind
-use Rattle.header.specs.Header.{headerOf}
-use Rattle.header.specs.Ids.{interfaceIn, messageIn}
+use Rattle.header.specs.Ids.{messageIn}
 use Rattle.header.specs.declared.ids.MessageId.{MessageId}
 use Rattle.wire.specs.Message.{askedOf}
 use Rattle.pieces.specs.Pieces.{cut, interfacesOf}
@@ -19,10 +19,14 @@ use Rattle.writer.specs.declared.ts_urb.Structure.the-variants as structure
 use Rattle.writer.specs.declared.ts_urb.TsUrbFields.{TsUrbFields}
 use Rattle.writer.specs.declared.message.Fields.{Fields}
 use Rattle.writer.specs.declared.message.Fields.the-variants.{CapabilityRequest, CapabilityResponse, ChannelCreatedByServer, ChannelCreatedByClient, AddVirtualChannel, AddDevice, RegisterRequestCallback, IoControl, InternalIoControl, TransferInRequest, TransferOutRequest, CancelRequest, RetractDevice, IoControlCompletion, UrbCompletion, UrbCompletionNoData}
-use Rattle.writer.specs.Message.{bytesOf}
 use Rattle.fields.specs.Message.{fieldsIn}
-use Rattle.writer_laws.specs.Rebuilt.{asksSome}
 use Rattle.words.specs.Words.{wordAt}
+use Rattle.header.specs.declared.ids.Known.{Known}
+use Rattle.header.specs.declared.ids.Known.the-variants as known
+use Rattle.answers.specs.Phase.{phasesOf}
+use Rattle.kinds.specs.Kinds.{client, server}
+use Rattle.channel.specs.declared.channel.Channel.{Channel}
+use Rattle.writer_laws.specs.Rebuilt.{asksSome}
 
 -- the kind of a message that fields are of
 abbrev pub kindOf : Fields → Kind
@@ -123,3 +127,49 @@ pub record ReadBack (id : MessageId) (f : Fields) (s : List ℕ) (w : List ℕ) 
   pub message : messageIn (wordAt w 4) ≡ id
   pub numbers : numbersOf (fieldsIn (kindOf f) w) ≡ numbersOf f
   pub parts : partsOf w (fieldsIn (kindOf f) w) ≡ partsOf s f
+
+-- the side that sends a message
+abbrev pub sideOf : Fields → ℕ
+sideOf (CapabilityRequest b) = server
+sideOf (CapabilityResponse b) = client
+sideOf (ChannelCreatedByServer b) = server
+sideOf (ChannelCreatedByClient b) = client
+sideOf AddVirtualChannel = client
+sideOf (AddDevice b) = client
+sideOf (RegisterRequestCallback i b) = server
+sideOf (IoControl i b) = server
+sideOf (InternalIoControl i b) = server
+sideOf (TransferInRequest i b) = server
+sideOf (TransferOutRequest i b) = server
+sideOf (CancelRequest i b) = server
+sideOf (RetractDevice i b) = server
+sideOf (IoControlCompletion i b) = client
+sideOf (UrbCompletion i b) = client
+sideOf (UrbCompletionNoData i b) = client
+
+-- a channel knows the interface that a message goes to
+abbrev pub Knows : Known → ℕ → Type 0
+Knows k i = k ≡ known.Is (record { 0 = i })
+
+abbrev pub Goes : Channel → Fields → Type 0
+Goes c (CapabilityRequest b) = Unit {0}
+Goes c (CapabilityResponse b) = Unit {0}
+Goes c (ChannelCreatedByServer b) = Unit {0}
+Goes c (ChannelCreatedByClient b) = Unit {0}
+Goes c AddVirtualChannel = Unit {0}
+Goes c (AddDevice b) = Unit {0}
+Goes c (RegisterRequestCallback i b) = Knows (c .device) i
+Goes c (IoControl i b) = Knows (c .device) i
+Goes c (InternalIoControl i b) = Knows (c .device) i
+Goes c (TransferInRequest i b) = Knows (c .device) i
+-- NoAck only where the device's milliseconds are not 0
+Goes c (TransferOutRequest i b) = Knows (c .device) i × (b .urb .noack ≡ true → eqb (c .jitter) 0 ≡ false)
+Goes c (CancelRequest i b) = Knows (c .device) i
+Goes c (RetractDevice i b) = Knows (c .device) i
+Goes c (IoControlCompletion i b) = Knows (c .callback) i
+Goes c (UrbCompletion i b) = Knows (c .callback) i
+Goes c (UrbCompletionNoData i b) = Knows (c .callback) i
+
+-- a channel allows a message: its phase, its device or callback, its milliseconds
+abbrev pub Allows : Channel → Fields → Type 0
+Allows c f = (c .phase ≡ phasesOf (kindOf f) .before) × Goes c f
