@@ -12,3 +12,4 @@ pub mod BackDevice
 pub mod BackUrb
 pub mod BackTransfer
 pub mod Taken
+pub mod ReadBack

@@ -176,54 +176,54 @@ checked : (jitter : ℕ) (t : Bool) (a : Asked) → NoAckAllowed jitter a → No
 checked jitter true a h = h
 checked jitter false a h = tt
 
-capability-request-no-out : (jitter : ℕ) (r : CapabilityRequestRead) → NoAckAllowed jitter (asksBy (capabilityRequestReading r))
+pub capability-request-no-out : (jitter : ℕ) (r : CapabilityRequestRead) → NoAckAllowed jitter (asksBy (capabilityRequestReading r))
 capability-request-no-out jitter (capabilityRequest.Fits b) = checked jitter (capabilityRequestAllowed b) _ tt
 capability-request-no-out jitter (capabilityRequest.Fails fault) = tt
 
-capability-response-no-out : (jitter : ℕ) (r : CapabilityResponseRead) → NoAckAllowed jitter (asksBy (capabilityResponseReading r))
+pub capability-response-no-out : (jitter : ℕ) (r : CapabilityResponseRead) → NoAckAllowed jitter (asksBy (capabilityResponseReading r))
 capability-response-no-out jitter (capabilityResponse.Fits b) = checked jitter (capabilityResponseAllowed b) _ tt
 capability-response-no-out jitter (capabilityResponse.Fails fault) = tt
 
-channel-created-no-out : (jitter : ℕ) (r : ChannelCreatedRead) → NoAckAllowed jitter (asksBy (channelCreatedReading r))
+pub channel-created-no-out : (jitter : ℕ) (r : ChannelCreatedRead) → NoAckAllowed jitter (asksBy (channelCreatedReading r))
 channel-created-no-out jitter (channelCreated.Fits b) = checked jitter (channelCreatedAllowed b) _ tt
 channel-created-no-out jitter (channelCreated.Fails fault) = tt
 
-add-virtual-channel-no-out : (jitter : ℕ) (r : AddVirtualChannelRead) → NoAckAllowed jitter (asksBy (addVirtualChannelReading r))
+pub add-virtual-channel-no-out : (jitter : ℕ) (r : AddVirtualChannelRead) → NoAckAllowed jitter (asksBy (addVirtualChannelReading r))
 add-virtual-channel-no-out jitter addVirtualChannel.Fits = tt
 add-virtual-channel-no-out jitter (addVirtualChannel.Fails fault) = tt
 
-add-device-no-out : (jitter : ℕ) (r : AddDeviceRead) → NoAckAllowed jitter (asksBy (addDeviceReading r))
+pub add-device-no-out : (jitter : ℕ) (r : AddDeviceRead) → NoAckAllowed jitter (asksBy (addDeviceReading r))
 add-device-no-out jitter (addDevice.Fits b) = checked jitter (addDeviceAllowed b) _ tt
 add-device-no-out jitter (addDevice.Fails fault) = tt
 
-cancel-request-no-out : (jitter : ℕ) (r : CancelRequestRead) → NoAckAllowed jitter (asksBy (cancelRequestReading r))
+pub cancel-request-no-out : (jitter : ℕ) (r : CancelRequestRead) → NoAckAllowed jitter (asksBy (cancelRequestReading r))
 cancel-request-no-out jitter (cancelRequest.Fits b) = tt
 cancel-request-no-out jitter (cancelRequest.Fails fault) = tt
 
-register-request-callback-no-out : (jitter : ℕ) (r : RegisterRequestCallbackRead) → NoAckAllowed jitter (asksBy (registerRequestCallbackReading r))
+pub register-request-callback-no-out : (jitter : ℕ) (r : RegisterRequestCallbackRead) → NoAckAllowed jitter (asksBy (registerRequestCallbackReading r))
 register-request-callback-no-out jitter (registerRequestCallback.Fits b) = checked jitter (registerRequestCallbackAllowed b) _ tt
 register-request-callback-no-out jitter (registerRequestCallback.Fails fault) = tt
 
-io-control-no-out : (jitter : ℕ) (r : IoControlRead) → NoAckAllowed jitter (asksBy (ioControlReading r))
+pub io-control-no-out : (jitter : ℕ) (r : IoControlRead) → NoAckAllowed jitter (asksBy (ioControlReading r))
 io-control-no-out jitter (ioControl.Fits b) = tt
 io-control-no-out jitter (ioControl.Fails fault) = tt
 
-transfer-in-request-no-out : (jitter : ℕ) (r : TransferInRequestRead) → NoAckAllowed jitter (asksBy (transferInRequestReading r))
+pub transfer-in-request-no-out : (jitter : ℕ) (r : TransferInRequestRead) → NoAckAllowed jitter (asksBy (transferInRequestReading r))
 transfer-in-request-no-out jitter (transferInRequest.Fits b) = checked jitter (transferInRequestAllowed b) _ tt
 transfer-in-request-no-out jitter (transferInRequest.Fails fault) = tt
 
-retract-device-no-out : (jitter : ℕ) (r : RetractDeviceRead) → NoAckAllowed jitter (asksBy (retractDeviceReading r))
+pub retract-device-no-out : (jitter : ℕ) (r : RetractDeviceRead) → NoAckAllowed jitter (asksBy (retractDeviceReading r))
 retract-device-no-out jitter (retractDevice.Fits b) = checked jitter (retractDeviceAllowed b) _ tt
 retract-device-no-out jitter (retractDevice.Fails fault) = tt
 
-io-control-completion-no-out : (jitter : ℕ) (r : IoControlCompletionRead) → NoAckAllowed jitter (asksBy (ioControlCompletionReading r))
+pub io-control-completion-no-out : (jitter : ℕ) (r : IoControlCompletionRead) → NoAckAllowed jitter (asksBy (ioControlCompletionReading r))
 io-control-completion-no-out jitter (ioControlCompletion.Fits b) = tt
 io-control-completion-no-out jitter (ioControlCompletion.Fails fault) = tt
 
-urb-completion-no-out : (jitter : ℕ) (r : UrbCompletionRead) → NoAckAllowed jitter (asksBy (urbCompletionReading r))
+pub urb-completion-no-out : (jitter : ℕ) (r : UrbCompletionRead) → NoAckAllowed jitter (asksBy (urbCompletionReading r))
 urb-completion-no-out jitter (urbCompletion.Fits b) = checked jitter (urbCompletionAllowed b) _ tt
 urb-completion-no-out jitter (urbCompletion.Fails fault) = tt
 
-urb-completion-no-data-no-out : (jitter : ℕ) (r : UrbCompletionNoDataRead) → NoAckAllowed jitter (asksBy (urbCompletionNoDataReading r))
+pub urb-completion-no-data-no-out : (jitter : ℕ) (r : UrbCompletionNoDataRead) → NoAckAllowed jitter (asksBy (urbCompletionNoDataReading r))
 urb-completion-no-data-no-out jitter (urbCompletionNoData.Fits b) = tt
 urb-completion-no-data-no-out jitter (urbCompletionNoData.Fails fault) = tt
