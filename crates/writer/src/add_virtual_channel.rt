@@ -10,5 +10,10 @@ ghost use Rattle.writer.specs.AddVirtualChannel.{addVirtualChannelPieces
 pub(crate) fn pieces(id: MessageId) -> [Piece; 20]
     ensures { λ r. ⌜ r ≡ padded (addVirtualChannelPieces id) ⌝ }
 {
-    start(AddVirtualChannel::INTERFACE, AddVirtualChannel::MASK, id, AddVirtualChannel::FUNCTION)
+    start(
+        AddVirtualChannel::INTERFACE,
+        AddVirtualChannel::MASK,
+        id,
+        AddVirtualChannel::FUNCTION,
+    )
 }

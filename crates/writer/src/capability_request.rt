@@ -10,7 +10,12 @@ ghost use Rattle.writer.specs.CapabilityRequest.{capabilityRequestPieces
 pub(crate) fn pieces(id: MessageId, b: CapabilityRequest) -> [Piece; 20]
     ensures { λ r. ⌜ r ≡ padded (capabilityRequestPieces id b) ⌝ }
 {
-    let mut p = start(CapabilityRequest::INTERFACE, CapabilityRequest::MASK, id, CapabilityRequest::FUNCTION);
+    let mut p = start(
+        CapabilityRequest::INTERFACE,
+        CapabilityRequest::MASK,
+        id,
+        CapabilityRequest::FUNCTION,
+    );
     p[3] = Piece::Word(b.capability as usize);
     p
 }

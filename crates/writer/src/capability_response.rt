@@ -21,7 +21,12 @@ pub(crate) fn allowed(b: CapabilityResponse) -> bool
 pub(crate) fn pieces(id: MessageId, b: CapabilityResponse) -> [Piece; 20]
     ensures { λ r. ⌜ r ≡ padded (capabilityResponsePieces id b) ⌝ }
 {
-    let mut p = start(CapabilityResponse::INTERFACE, CapabilityResponse::MASK, id, b.capability);
+    let mut p = start(
+        CapabilityResponse::INTERFACE,
+        CapabilityResponse::MASK,
+        id,
+        b.capability,
+    );
     p[3] = Piece::Word(b.result as usize);
     p
 }

@@ -24,7 +24,12 @@ pub(crate) fn allowed(b: ChannelCreated) -> bool
 pub(crate) fn pieces(id: MessageId, interface: u32, b: ChannelCreated) -> [Piece; 20]
     ensures { λ r. ⌜ r ≡ padded (channelCreatedPieces id interface b) ⌝ }
 {
-    let mut p = start(interface, ChannelCreated::MASK, id, ChannelCreated::FUNCTION);
+    let mut p = start(
+        interface,
+        ChannelCreated::MASK,
+        id,
+        ChannelCreated::FUNCTION,
+    );
     p[3] = Piece::Word(b.major as usize);
     p[4] = Piece::Word(b.minor as usize);
     p[5] = Piece::Word(b.capabilities as usize);

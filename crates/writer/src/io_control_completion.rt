@@ -30,7 +30,12 @@ pub(crate) fn allowed(interface: u32, b: IoControlCompletionFields, lent: &[u8])
 pub(crate) fn pieces(id: MessageId, interface: u32, b: IoControlCompletionFields) -> [Piece; 20]
     ensures { λ r. ⌜ r ≡ padded (ioControlCompletionPieces id interface b) ⌝ }
 {
-    let mut p = start(interface, IoControlCompletion::MASK, id, IoControlCompletion::FUNCTION);
+    let mut p = start(
+        interface,
+        IoControlCompletion::MASK,
+        id,
+        IoControlCompletion::FUNCTION,
+    );
     let output = b.output;
     let request = b.request;
     p[3] = Piece::Word(request.number() as usize);

@@ -92,17 +92,44 @@ fn pieces(id: MessageId, fields: Fields) -> [Piece; 20]
     match fields {
         Fields::CapabilityRequest(b) => capability_request::pieces(id, b),
         Fields::CapabilityResponse(b) => capability_response::pieces(id, b),
-        Fields::ChannelCreatedByServer(b) => channel_created::pieces(id, ChannelCreated::INTERFACE_BY_SERVER, b),
-        Fields::ChannelCreatedByClient(b) => channel_created::pieces(id, ChannelCreated::INTERFACE_BY_CLIENT, b),
+        Fields::ChannelCreatedByServer(b) => channel_created::pieces(
+            id,
+            ChannelCreated::INTERFACE_BY_SERVER,
+            b,
+        ),
+        Fields::ChannelCreatedByClient(b) => channel_created::pieces(
+            id,
+            ChannelCreated::INTERFACE_BY_CLIENT,
+            b,
+        ),
         Fields::AddVirtualChannel => add_virtual_channel::pieces(id),
         Fields::AddDevice(b) => add_device::pieces(id, b),
         Fields::RegisterRequestCallback(i, b) => register_request_callback::pieces(id, i, b),
         Fields::IoControl(i, b) => io_control::pieces(id, i, IoControl::FUNCTION, b),
-        Fields::InternalIoControl(i, b) => io_control::pieces(id, i, InternalIoControl::FUNCTION, b),
-        Fields::TransferInRequest(i, b) => transfer::pieces(id, i, TransferInRequest::FUNCTION, b.urb, b.size as usize, Part { start: 0, size: 0 }),
+        Fields::InternalIoControl(i, b) => io_control::pieces(
+            id,
+            i,
+            InternalIoControl::FUNCTION,
+            b,
+        ),
+        Fields::TransferInRequest(i, b) => transfer::pieces(
+            id,
+            i,
+            TransferInRequest::FUNCTION,
+            b.urb,
+            b.size as usize,
+            Part { start: 0, size: 0 },
+        ),
         Fields::TransferOutRequest(i, b) => {
             let output = b.output;
-            transfer::pieces(id, i, TransferOutRequest::FUNCTION, b.urb, output.size, output)
+            transfer::pieces(
+                id,
+                i,
+                TransferOutRequest::FUNCTION,
+                b.urb,
+                output.size,
+                output,
+            )
         }
         Fields::CancelRequest(i, b) => cancel_request::pieces(id, i, b),
         Fields::RetractDevice(i, b) => retract_device::pieces(id, i, b),
@@ -111,7 +138,14 @@ fn pieces(id: MessageId, fields: Fields) -> [Piece; 20]
             let output = b.output;
             urb_completion::pieces(id, i, UrbCompletion::FUNCTION, b.urb, output.size, output)
         }
-        Fields::UrbCompletionNoData(i, b) => urb_completion::pieces(id, i, UrbCompletionNoData::FUNCTION, b.urb, b.size as usize, Part { start: 0, size: 0 }),
+        Fields::UrbCompletionNoData(i, b) => urb_completion::pieces(
+            id,
+            i,
+            UrbCompletionNoData::FUNCTION,
+            b.urb,
+            b.size as usize,
+            Part { start: 0, size: 0 },
+        ),
     }
 }
 

@@ -49,7 +49,12 @@ pub(crate) fn allowed(interface: u32, b: RegisterRequestCallbackFields) -> bool
 pub(crate) fn pieces(id: MessageId, interface: u32, b: RegisterRequestCallbackFields) -> [Piece; 20]
     ensures { λ r. ⌜ r ≡ padded (registerRequestCallbackPieces id interface b) ⌝ }
 {
-    let mut p = start(interface, RegisterRequestCallback::MASK, id, RegisterRequestCallback::FUNCTION);
+    let mut p = start(
+        interface,
+        RegisterRequestCallback::MASK,
+        id,
+        RegisterRequestCallback::FUNCTION,
+    );
     p[3] = Piece::Word(b.count as usize);
     let completion = b.completion;
     match completion {

@@ -109,7 +109,14 @@ fn request_word(request: RequestId, noack: bool) -> usize
 }
 
 // OutputBufferSize is `size`, and the bytes behind it are `output`.
-pub(crate) fn pieces(id: MessageId, interface: u32, function: u32, t: TsUrbFields, size: usize, output: Part) -> [Piece; 20]
+pub(crate) fn pieces(
+    id: MessageId,
+    interface: u32,
+    function: u32,
+    t: TsUrbFields,
+    size: usize,
+    output: Part,
+) -> [Piece; 20]
     requires { ⌜ Small (t .structure) ⌝ }
     ensures { λ r. ⌜ r ≡ padded (transferPieces id interface function t size output) ⌝ }
 {

@@ -61,7 +61,14 @@ pub(crate) fn allowed(interface: u32, b: UrbCompletionFields, lent: &[u8]) -> bo
 }
 
 // OutputBufferSize is `size`, and the bytes behind it are `output`.
-pub(crate) fn pieces(id: MessageId, interface: u32, function: u32, b: UrbResultFields, size: usize, output: Part) -> [Piece; 20]
+pub(crate) fn pieces(
+    id: MessageId,
+    interface: u32,
+    function: u32,
+    b: UrbResultFields,
+    size: usize,
+    output: Part,
+) -> [Piece; 20]
     requires { ⌜ b .rest .size ≤ 65535 ⌝ }
     ensures { λ r. ⌜ r ≡ padded (completionPieces id interface function b size output) ⌝ }
 {

@@ -1,1 +1,4 @@
 pub mod Places
+pub mod Cleared
+pub mod Rebuilt
+pub mod RebuiltDevice

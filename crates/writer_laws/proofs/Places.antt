@@ -53,9 +53,10 @@ unfolding encode
 places-behind pre s w at sum m [] e l t = rw (e, append-nil) (sym l)
 places-behind pre s w at sum m (p ∷ ps) e l t =
     let q = total-first (length s) sum p ps m t in
-    let n = piece-length s p (q .0) in
-    (stands pre s (encode s ps) w at p e l n,
-    places-behind (pre ++ bytesOf s p) s w (at + sizeOf p) (sum + sizeOf p) m ps (e ∙ sym (append-assoc pre (bytesOf s p) (encode s ps))) (rw (length-append, n, l)) (q .2))
+    let n = piece-length s p (q .0) in (
+      stands pre s (encode s ps) w at p e l n,
+      places-behind (pre ++ bytesOf s p) s w (at + sizeOf p) (sum + sizeOf p) m ps (e ∙ sym (append-assoc pre (bytesOf s p) (encode s ps))) (rw (length-append, n, l)) (q .2),
+    )
 
 pub places : (s : List ℕ) (ps : List Piece) (m : ℕ) → totalFrom (length s) 0 ps ≡ total.Fits m → Places (encode s ps) s 0 ps
 places s ps m t = places-behind [] s (encode s ps) 0 0 m ps refl refl t

@@ -1,1 +1,3 @@
 pub mod Places
+pub mod Layout
+pub mod Rebuilt

@@ -1,0 +1,4 @@
+pub mod Calls
+pub mod Lies
+pub mod Padded
+pub mod Messages
