@@ -41,7 +41,10 @@ pub(crate) fn added(t: Table) -> Table {
         count: 1,
         device: ids::DEVICE,
         instance: Part { start: 0, size: 10 },
-        hardware: Part { start: 10, size: 10 },
+        hardware: Part {
+            start: 10,
+            size: 10,
+        },
         compatible: Part { start: 20, size: 8 },
         container: Part { start: 28, size: 8 },
         capabilities: DeviceCapabilities {

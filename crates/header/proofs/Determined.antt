@@ -8,6 +8,8 @@ use Rattle.header.proofs.ids.InterfaceId.number.Reads as interface-numb
 use Rattle.header.proofs.ids.InterfaceId.number.Kinds as interface-number-kinds
 use Rattle.header.proofs.ids.MessageId.read.Reads as message-read
 use Rattle.header.proofs.ids.MessageId.read.Kinds as message-read-kinds
+use Rattle.header.proofs.ids.MessageId.number.Reads as message-number
+use Rattle.header.proofs.ids.MessageId.number.Kinds as message-number-kinds
 use Rattle.header.proofs.ids.RequestId.read.Reads as request-read
 use Rattle.header.proofs.ids.RequestId.read.Kinds as request-read-kinds
 use Rattle.header.proofs.ids.RequestId.read_urb.Reads as request-read-urb
@@ -32,6 +34,9 @@ interface-number-determined = record { asks-nothing = λ κs a. tt; one-result =
 
 pub message-read-determined : Determined 1 message-read-kinds.ps message-read-kinds.r message-read.Pre message-read.Post
 message-read-determined = record { asks-nothing = λ κs a. tt; one-result = λ κs a x y s t p q. same x y _ p q }
+
+pub message-number-determined : Determined 0 message-number-kinds.ps message-number-kinds.r message-number.Pre message-number.Post
+message-number-determined = record { asks-nothing = λ κs a. tt; one-result = λ κs a x y s t p q. same x y _ p q }
 
 pub request-read-determined : Determined 1 request-read-kinds.ps request-read-kinds.r request-read.Pre request-read.Post
 request-read-determined = record { asks-nothing = λ κs a. tt; one-result = λ κs a x y s t p q. same x y _ p q }

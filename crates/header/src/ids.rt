@@ -59,7 +59,7 @@ impl MessageId {
     pub fn number(self) -> u32
         ensures { λ r. ⌜ r ≡ self .0 ⌝ }
     {
-        self.0
+        self.0 // of 32 bits
     }
 }
 

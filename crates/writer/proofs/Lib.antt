@@ -2,3 +2,4 @@ pub mod Calls
 pub mod Lies
 pub mod Padded
 pub mod Messages
+pub mod Determined

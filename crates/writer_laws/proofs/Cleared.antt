@@ -63,6 +63,13 @@ middle a b c j e = ap (λ x. a ++ x) (append-assoc b (0 ∷ 0 ∷ []) c) ∙ (sy
 front : (a b c j : List ℕ) → b ++ c ≡ j → (a ++ (0 ∷ 0 ∷ [])) ++ (b ++ c) ≡ a ++ (0 ∷ 0 ∷ j)
 front a b c j e = append-assoc a (0 ∷ 0 ∷ []) (b ++ c) ∙ ap (λ x. a ++ (0 ∷ 0 ∷ x)) e
 
+-- the two sorts of rows
+abbrev pub interfaceRow : List ℕ → ℕ → Row
+interfaceRow m at = record { first = wordAt m at; second = halfAt m (at + 4); third = wordAt m (at + 8); pipes = wordAt m (at + 8) }
+
+abbrev pub pipeRow : List ℕ → ℕ → ℕ → Row
+pipeRow m at pipes = record { first = halfAt m at; second = wordAt m (at + 4); third = wordAt m (at + 8); pipes = pipes - 1 }
+
 module _ (m : List ℕ) (bytes : Bytes m) where
   word-cleared : (at : ℕ) → at + 4 ≤ length m → wordBytes (wordAt m at) ≡ bytesFrom m at 4
   word-cleared at h = digits (wordAt m at) (byteAt m at) (byteAt m (at + 1)) (byteAt m (at + 2)) (byteAt m (at + 3)) refl (bytes at) (bytes (at + 1)) (bytes (at + 2)) (bytes (at + 3)) ∙ sym (four m at h)
@@ -82,16 +89,10 @@ module _ (m : List ℕ) (bytes : Bytes m) where
       let j : bytesFrom m (at + 4) 4 ++ bytesFrom m (at + 8) 4 ≡ bytesFrom m (at + 4) 8 = subst (λ k. bytesFrom m (at + 4) 4 ++ bytesFrom m k 4 ≡ bytesFrom m (at + 4) 8) e (joined m (at + 4) 4 4) in
       glued _ _ _ _ _ _ (half-cleared at (omega arith)) (word-cleared (at + 4) (omega arith)) (word-cleared (at + 8) (omega arith)) ∙ front (bytesFrom m at 2) (bytesFrom m (at + 4) 4) (bytesFrom m (at + 8) 4) _ j
 
-  abbrev interfaceRow : ℕ → Row
-  interfaceRow at = record { first = wordAt m at; second = halfAt m (at + 4); third = wordAt m (at + 8); pipes = wordAt m (at + 8) }
-
-  abbrev pipeRow : ℕ → ℕ → Row
-  pipeRow at pipes = record { first = halfAt m at; second = wordAt m (at + 4); third = wordAt m (at + 8); pipes = pipes - 1 }
-
   row-cleared : (at pipes : ℕ) → at + 12 ≤ length m → (rowBytes (rowOf m at pipes) ≡ clearedRow m pipes at) × (rowOf m at pipes .pipes ≡ cond (eqb pipes 0) (wordAt m (at + 8)) (pipes - 1))
   row-cleared at pipes h = go (eqb pipes 0)
     where
-      go : (t : Bool) → (rowBytes (cond t (interfaceRow at) (pipeRow at pipes)) ≡ cond t (bytesFrom m at 6 ++ (0 ∷ 0 ∷ bytesFrom m (at + 8) 4)) (bytesFrom m at 2 ++ (0 ∷ 0 ∷ bytesFrom m (at + 4) 8))) × (cond t (interfaceRow at) (pipeRow at pipes) .pipes ≡ cond t (wordAt m (at + 8)) (pipes - 1))
+      go : (t : Bool) → (rowBytes (cond t (interfaceRow m at) (pipeRow m at pipes)) ≡ cond t (bytesFrom m at 6 ++ (0 ∷ 0 ∷ bytesFrom m (at + 8) 4)) (bytesFrom m at 2 ++ (0 ∷ 0 ∷ bytesFrom m (at + 4) 8))) × (cond t (interfaceRow m at) (pipeRow m at pipes) .pipes ≡ cond t (wordAt m (at + 8)) (pipes - 1))
       go true = (interface-cleared at h, refl)
       go false = (pipe-cleared at h, refl)
 

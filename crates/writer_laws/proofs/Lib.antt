@@ -1,4 +1,10 @@
 pub mod Places
 pub mod Cleared
+pub mod Walks
 pub mod Rebuilt
 pub mod RebuiltDevice
+pub mod RebuiltUrb
+pub mod RebuiltTransfer
+pub mod Headers
+pub mod Again
+pub mod Back

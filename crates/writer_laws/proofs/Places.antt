@@ -7,16 +7,19 @@ use mathlib.Core.List.{List, [], _∷_, _++_, append-assoc, append-nil}
 use mathlib.Core.Bool.{Bool, true, false, cond}
 use lib.ListN.{length, take, drop, getD, length-append}
 use lib.Seq.{take-append-seam, drop-append-seam, getD-append-add}
-use lib.Dec.{ltb, leb}
-use Rattle.words.specs.Words.{wordAt, byteAt}
+use lib.Dec.{eqb, ltb, leb}
+use Rattle.words.specs.Words.{byteAt, halfAt, wordAt}
 use Rattle.words.specs.Written.{wordBytes}
 use Rattle.words.specs.declared.layout.Part.{Part}
-use Rattle.pieces.specs.Pieces.{bytesOf, cut, encode, interfacesOf, sizeOf, totalFrom}
+use Rattle.pieces.specs.Pieces.{bytesOf, cut, encode, interfacesOf, rowBytes, rowOf, sizeOf, totalFrom}
 use Rattle.pieces.specs.declared.piece.Piece.{Piece}
 use Rattle.pieces.specs.declared.piece.Piece.the-variants.{Nothing, Word, Run, Interfaces}
+use Rattle.pieces.specs.declared.piece.Row.{Row}
 use Rattle.pieces.specs.declared.piece.Total.the-variants as total
-use Rattle.pieces.proofs.Pieces.{piece-length, total-first}
-use Rattle.writer_laws.specs.Places.{Places, Stands}
+use Rattle.pieces.proofs.Pieces.{encode-length, piece-length, total-first}
+use Rattle.writer_laws.specs.Layout.{Bytes}
+use Rattle.writer_laws.specs.Places.{Places, RowsStand, Stands, WordStands}
+use Rattle.writer_laws.proofs.Cleared.{interfaceRow, pipeRow}
 
 two : (n : ℕ) → n / 65536 ≡ n / 256 / 256
 two n = sym (div-div-eq-div-mul n 256 256)
@@ -28,35 +31,98 @@ three n = sym (div-div-eq-div-mul n 256 65536) ∙ sym (div-div-eq-div-mul (n / 
 word-back : (n : ℕ) → n < 4294967296 → n % 256 + 256 * (n / 256 % 256) + 65536 * (n / 65536 % 256) + 16777216 * (n / 16777216 % 256) ≡ n
 word-back n h = rw (two n, three n) (let l : n / 256 / 256 / 256 < 256 = omega arith in omega arith)
 
+half-back : (n : ℕ) → n % 256 + 256 * (n / 256 % 256) ≡ n % 65536
+half-back n = omega arith
+
+upper-back : (n : ℕ) → n < 4294967296 → n / 65536 % 256 + 256 * (n / 16777216 % 256) ≡ n / 65536
+upper-back n h = let e = div-div-eq-div-mul n 65536 256 in rw (← e) (omega arith)
+
 -- a word that stands behind so many bytes
-word-behind : (pre : List ℕ) (n : ℕ) (rest : List ℕ) (w : List ℕ) (at : ℕ) → w ≡ pre ++ (wordBytes n ++ rest) → at ≡ length pre → n < 4294967296 → wordAt w at ≡ n
+word-behind : (pre : List ℕ) (n : ℕ) (rest : List ℕ) (w : List ℕ) (at : ℕ) → w ≡ pre ++ (wordBytes n ++ rest) → at ≡ length pre → n < 4294967296 → WordStands w at n
 word-behind pre n rest w at e l h =
     let b0 : byteAt w at ≡ n % 256 = rw (e, l) (subst (λ k. getD (pre ++ (wordBytes n ++ rest)) k 0 ≡ n % 256) (omega arith) (getD-append-add pre (wordBytes n ++ rest) 0 0)) in
     let b1 : byteAt w (at + 1) ≡ n / 256 % 256 = rw (e, l) (getD-append-add pre (wordBytes n ++ rest) 1 0) in
     let b2 : byteAt w (at + 2) ≡ n / 65536 % 256 = rw (e, l) (getD-append-add pre (wordBytes n ++ rest) 2 0) in
     let b3 : byteAt w (at + 3) ≡ n / 16777216 % 256 = rw (e, l) (getD-append-add pre (wordBytes n ++ rest) 3 0) in
-    rw (b0, b1, b2, b3) (word-back n h)
+    let z : at + 2 + 1 ≡ at + 3 = omega arith in
+    (rw (b0, b1, b2, b3) (word-back n h), rw (b0, b1) (half-back n), rw (z, b2, b3) (upper-back n h), b0)
 
 -- bytes that stand behind so many
 cut-behind : (pre xs rest w : List ℕ) (at n : ℕ) → w ≡ pre ++ (xs ++ rest) → at ≡ length pre → n ≡ length xs → cut w (record { start = at; size = n }) ≡ xs
 cut-behind pre xs rest w at n e l h = rw (e, l, h, drop-append-seam pre (xs ++ rest), take-append-seam xs rest)
 
-stands : (pre s rest w : List ℕ) (at : ℕ) (p : Piece) → w ≡ pre ++ (bytesOf s p ++ rest) → at ≡ length pre → length (bytesOf s p) ≡ sizeOf p → Stands w s at p
-stands pre s rest w at Nothing e l h = tt
-stands pre s rest w at (Word n) e l h = λ b. word-behind pre n rest w at e l b
-stands pre s rest w at (Run p) e l h = cut-behind pre (cut s p) rest w at (p .size) e l (sym h)
-stands pre s rest w at (Interfaces p) e l h = cut-behind pre (interfacesOf s (p .size / 12) 0 (p .start)) rest w at (p .size / 12 * 12) e l (sym h)
+low : (a b c d : ℕ) → a < 256 → b < 256 → (a + 256 * b + 65536 * c + 16777216 * d) % 65536 ≡ a + 256 * b
+low a b c d ha hb = omega arith
+
+low-half : (a b : ℕ) → a < 256 → b < 256 → (a + 256 * b) % 65536 ≡ a + 256 * b
+low-half a b ha hb = omega arith
+
+four-below : (a b c d : ℕ) → a < 256 → b < 256 → c < 256 → d < 256 → a + 256 * b + 65536 * c + 16777216 * d < 4294967296
+four-below a b c d ha hb hc hd = omega arith
+
+two-below : (a b : ℕ) → a < 256 → b < 256 → a + 256 * b < 4294967296
+two-below a b ha hb = omega arith
+
+module _ (s : List ℕ) (bytes : Bytes s) where
+  pub word-below : (x : ℕ) → wordAt s x < 4294967296
+  word-below x = four-below (byteAt s x) (byteAt s (x + 1)) (byteAt s (x + 2)) (byteAt s (x + 3)) (bytes x) (bytes (x + 1)) (bytes (x + 2)) (bytes (x + 3))
+
+  half-below : (x : ℕ) → halfAt s x < 4294967296
+  half-below x = two-below (byteAt s x) (byteAt s (x + 1)) (bytes x) (bytes (x + 1))
+
+  -- the first word of a row: its two bytes are those of the lent row
+  first-half : (x pipes : ℕ) → (rowOf s x pipes .first < 4294967296) × (rowOf s x pipes .first % 65536 ≡ halfAt s x) × (rowOf s x pipes .third ≡ wordAt s (x + 8))
+  first-half x pipes = go (eqb pipes 0)
+    where
+      go : (t : Bool) → (cond t (interfaceRow s x) (pipeRow s x pipes) .first < 4294967296) × (cond t (interfaceRow s x) (pipeRow s x pipes) .first % 65536 ≡ halfAt s x) × (cond t (interfaceRow s x) (pipeRow s x pipes) .third ≡ wordAt s (x + 8))
+      go true = (word-below x, low (byteAt s x) (byteAt s (x + 1)) (byteAt s (x + 2)) (byteAt s (x + 3)) (bytes x) (bytes (x + 1)), refl)
+      go false = (half-below x, low-half (byteAt s x) (byteAt s (x + 1)) (bytes x) (bytes (x + 1)), refl)
+
+  rows-stand : (n : ℕ) (pre rest w : List ℕ) (at a pipes : ℕ) → w ≡ pre ++ (interfacesOf s n pipes a ++ rest) → at ≡ length pre → RowsStand w s at a n
+  unfolding interfacesOf
+  rows-stand zero pre rest w at a pipes e l = λ j x y ex ey h. absurd (omega arith)
+  rows-stand (suc n) pre rest w at a pipes e l = rows (rows-stand n (pre ++ rowBytes r) rest w (at + 12) (a + 12) (r .pipes) (e ∙ grouped) (rw (length-append, l)))
+    where
+      r : Row
+      r = rowOf s a pipes
+      more : List ℕ
+      more = interfacesOf s n (r .pipes) (a + 12)
+      grouped : pre ++ ((rowBytes r ++ more) ++ rest) ≡ (pre ++ rowBytes r) ++ (more ++ rest)
+      grouped = ap (λ z. pre ++ z) (append-assoc (rowBytes r) more rest) ∙ sym (append-assoc pre (rowBytes r) (more ++ rest))
+      rows : RowsStand w s (at + 12) (a + 12) n → RowsStand w s at a (suc n)
+      rows i zero x y ex ey h =
+          let xa : x ≡ a = omega arith in let ya : y ≡ at = omega arith in
+          let f = first-half a pipes in
+          let one = word-behind pre (r .first) (wordBytes (r .second) ++ (wordBytes (r .third) ++ (more ++ rest))) w at e l (f .0) in
+          let two = word-behind (pre ++ (wordBytes (r .first) ++ wordBytes (r .second))) (r .third) (more ++ rest) w (at + 8) (e ∙ sym (append-assoc pre (wordBytes (r .first) ++ wordBytes (r .second)) (wordBytes (r .third) ++ (more ++ rest)))) (rw (length-append, l)) (subst (λ z. z < 4294967296) (sym (f .2)) (word-below (a + 8))) in
+          (rw (xa, ya) (one .1 ∙ f .1), rw (xa, ya) (two .0 ∙ f .2))
+      rows i (suc j) x y ex ey h = i j x y (omega arith) (omega arith) (omega arith)
+
+stands : (pre s rest w : List ℕ) (at : ℕ) (p : Piece) → Bytes s → w ≡ pre ++ (bytesOf s p ++ rest) → at ≡ length pre → length (bytesOf s p) ≡ sizeOf p → Stands w s at p
+stands pre s rest w at Nothing b e l h = tt
+stands pre s rest w at (Word n) b e l h = λ k. word-behind pre n rest w at e l k
+stands pre s rest w at (Run p) b e l h = cut-behind pre (cut s p) rest w at (p .size) e l (sym h)
+stands pre s rest w at (Interfaces p) b e l h = (cut-behind pre (interfacesOf s (p .size / 12) 0 (p .start)) rest w at (p .size / 12 * 12) e l (sym h), rows-stand s b (p .size / 12) pre rest w at (p .start) 0 e l)
 
 -- the pieces of a message, whose parts lie in the lent bytes, stand in it one behind the other
-places-behind : (pre s w : List ℕ) (at sum m : ℕ) (ps : List Piece) → w ≡ pre ++ encode s ps → at ≡ length pre → totalFrom (length s) sum ps ≡ total.Fits m → Places w s at ps
+places-behind : (pre s w : List ℕ) (at sum m : ℕ) (ps : List Piece) → Bytes s → w ≡ pre ++ encode s ps → at ≡ length pre → totalFrom (length s) sum ps ≡ total.Fits m → Places w s at ps
 unfolding encode
-places-behind pre s w at sum m [] e l t = rw (e, append-nil) (sym l)
-places-behind pre s w at sum m (p ∷ ps) e l t =
+places-behind pre s w at sum m [] b e l t = rw (e, append-nil) (sym l)
+places-behind pre s w at sum m (p ∷ ps) b e l t =
     let q = total-first (length s) sum p ps m t in
     let n = piece-length s p (q .0) in (
-      stands pre s (encode s ps) w at p e l n,
-      places-behind (pre ++ bytesOf s p) s w (at + sizeOf p) (sum + sizeOf p) m ps (e ∙ sym (append-assoc pre (bytesOf s p) (encode s ps))) (rw (length-append, n, l)) (q .2),
+      stands pre s (encode s ps) w at p b e l n,
+      places-behind (pre ++ bytesOf s p) s w (at + sizeOf p) (sum + sizeOf p) m ps b (e ∙ sym (append-assoc pre (bytesOf s p) (encode s ps))) (rw (length-append, n, l)) (q .2),
     )
 
-pub places : (s : List ℕ) (ps : List Piece) (m : ℕ) → totalFrom (length s) 0 ps ≡ total.Fits m → Places (encode s ps) s 0 ps
-places s ps m t = places-behind [] s (encode s ps) 0 0 m ps refl refl t
+pub places : (s : List ℕ) (ps : List Piece) (m : ℕ) → Bytes s → totalFrom (length s) 0 ps ≡ total.Fits m → Places (encode s ps) s 0 ps
+places s ps m b t = places-behind [] s (encode s ps) 0 0 m ps b refl refl t
+
+-- pieces that fit make up at most 65,535 bytes
+total-below : (n sum m : ℕ) (ps : List Piece) → sum ≤ 65535 → totalFrom n sum ps ≡ total.Fits m → m ≤ 65535
+unfolding totalFrom
+total-below n sum m [] h t = let e : sum ≡ m = cc in omega arith
+total-below n sum m (p ∷ ps) h t = let q = total-first n sum p ps m t in total-below n (sum + sizeOf p) m ps (omega (arith, q .1)) (q .2)
+
+pub fits-length : (s : List ℕ) (ps : List Piece) (m : ℕ) → totalFrom (length s) 0 ps ≡ total.Fits m → length (encode s ps) ≤ 65535
+fits-length s ps m t = omega (arith, encode-length s ps 0 m t, total-below (length s) 0 m ps (omega arith) t)

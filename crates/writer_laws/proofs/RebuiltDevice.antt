@@ -90,7 +90,7 @@ fits-by : (m : List ℕ) (at : ℕ) (allows : Text → Bool) → at + 4 + 2 * wo
     → (partAllowed m (record { start = at + 4; size = 2 * wordAt m at }) && (eqb (2 * wordAt m at % 2) 0 && allows (textGiven m (record { start = at + 4; size = 2 * wordAt m at })))) ≡ true
 fits-by m at allows h l e = both (part-in m _ h l) (both (eq-eqb _ 0 (even (wordAt m at))) (rw (text-same m at) e))
 
-split : (a b : Bool) → (a && b) ≡ true → (a ≡ true) × (b ≡ true)
+pub split : (a b : Bool) → (a && b) ≡ true → (a ≡ true) × (b ≡ true)
 split true b e = (refl, e)
 split false b e = refused e
 

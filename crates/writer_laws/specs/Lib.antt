@@ -1,3 +1,5 @@
 pub mod Places
 pub mod Layout
 pub mod Rebuilt
+pub mod Passed
+pub mod ReadBack

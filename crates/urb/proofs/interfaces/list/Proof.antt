@@ -1,5 +1,5 @@
 -- `urb::interfaces::list` meets its contract. The invariant: what is left of the list, walked from here on, is what the whole list is.
-use mathlib.Core.Path.{_≡_, sym, _∙_}
+use mathlib.Core.Path.{_≡_, refl, sym, _∙_}
 use native.Mathlib.Omega.{arith}
 use borrow.Author.Needs.{needs}
 use Rattle.urb.specs.Interfaces.{interfacesOf}
@@ -24,7 +24,7 @@ list-spec =
     (search needs)
     (search needs)
     (search needs)
-    (λ c. c .before .before .before .before .before .loop .inv ∙ interfaces-split _ 32 _ _ _ (omega arith) ∙ rw (← (c .before .before .before .interface .ensures), c .before .end .given .1))
+    (λ c. c .before .before .before .before .before .loop .inv ∙ interfaces-split _ 32 _ _ _ (omega arith) ∙ rw (← (c .before .before .before .interface .ensures), c .before .end .given .1) refl)
     (search needs)
     (λ c. sym (c .before .before .before .before .before .loop .inv ∙ interfaces-split _ 32 _ _ _ (omega arith) ∙ rw (← (c .before .before .before .interface .ensures), c .before .fault .given .1)))
     (search needs)

@@ -1,4 +1,5 @@
 -- `writer::register_request_callback::completion_allowed` meets its contract: its tests are those of `completionAllowed`.
+use mathlib.Core.Path.{refl}
 use borrow.Author.Needs.{needs}
 use borrow.Author.Tests.{eq-eqb, ne-eqb}
 use Rattle.writer.proofs.register_request_callback.completion_allowed.Statement.{statement}
@@ -10,6 +11,6 @@ completion-allowed-spec =
     (tie.spec
     (search needs)
     (search needs)
-    (λ c. rw (c .before .before .completion .given .1, eq-eqb (c .before .before .before .before .args .count) 0 (c .if1 .taken)))
+    (λ c. rw (c .before .before .completion .given .1, eq-eqb (c .before .before .before .before .args .count) 0 (c .if1 .taken)) refl)
     (λ c. rw (c .enum-told .given .1))
     (λ c. rw (c .before .before .completion .given .1, ne-eqb (c .before .before .before .before .args .count) 0 (c .if1 .left))))

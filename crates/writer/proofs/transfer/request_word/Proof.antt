@@ -1,4 +1,5 @@
 -- `writer::transfer::request_word` meets its contract: NoAck adds the top bit.
+use mathlib.Core.Path.{refl}
 use borrow.Author.Needs.{needs}
 use Rattle.writer.proofs.transfer.request_word.Statement.{statement}
 use Rattle.writer.proofs.transfer.request_word.Tie as tie
@@ -10,7 +11,7 @@ request-word-spec =
     (search needs)
     (search needs)
     (search needs)
-    (λ c. rw (c .before .if1 .taken, c .number .ensures))
+    (λ c. rw (c .before .if1 .taken, c .number .ensures) refl)
     (search needs)
     (search needs)
     (λ c. rw (c .before .if1 .left) (c .number2 .ensures)))
