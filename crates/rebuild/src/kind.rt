@@ -16,7 +16,8 @@ pub(crate) fn of(entry: Noted) -> Passed {
 }
 
 fn by_answer(e: Entry) -> Passed {
-    match e.answer {
+    let answer = e.answer;
+    match answer {
         0 | 9..=14 => numbered(e.kind),
         _ => Passed::Nothing,
     }

@@ -15,6 +15,7 @@ use table::table::judge;
 use table::table::open;
 use words::numbers::u16_at;
 use writer::message::write;
+ghost use mathlib.Core.Path.{_≡_};
 ghost use Prim.Native.Nat.{_≤_};
 ghost use lib.ListN.{length};
 
@@ -44,22 +45,33 @@ fn records(bytes: &mut [u8], made: &mut [u8]) {
 }
 
 // Reads a record to the front of the bytes, and says how long it is. Where the input ends before the record does, what there is of it is copied, and 0 is said.
-fn fetch(bytes: &mut [u8]) -> usize {
+fn fetch(bytes: &mut [u8]) -> usize
+    ensures { λ r. ⌜ r ≤ length (now (bytes .entry)) ⌝ }
+{
     if bytes.len() < Record::HEAD {
         return 0;
     }
     let head = io::read_full(0, &mut bytes[..Record::HEAD]);
+    if head < Record::HEAD {
+        return cut(bytes, head);
+    }
     let size = Record::HEAD + u16_at(bytes, 2) as usize;
-    if head < Record::HEAD || bytes.len() < size {
-        io::write_all(1, &bytes[..head]);
-        return 0;
+    if bytes.len() < size {
+        return cut(bytes, Record::HEAD);
     }
     let end = Record::HEAD + io::read_full(0, &mut bytes[Record::HEAD..size]);
     if end < size {
-        io::write_all(1, &bytes[..end]);
-        return 0;
+        return cut(bytes, end);
     }
     size
+}
+
+fn cut(bytes: &[u8], end: usize) -> usize
+    requires { ⌜ end ≤ length (now bytes) ⌝ }
+    ensures { λ r. ⌜ r ≡ 0 ⌝ }
+{
+    io::write_all(1, &bytes[..end]);
+    0
 }
 
 // The table afterwards.
@@ -77,14 +89,18 @@ fn of_record(t: Table, bytes: &[u8], made: &mut [u8]) -> Table {
     }
 }
 
-fn judged(t: Table, h: Head, bytes: &[u8], made: &mut [u8]) -> Table {
+fn judged(t: Table, h: Head, bytes: &[u8], made: &mut [u8]) -> Table
+    requires { ⌜ 12 ≤ length (now bytes) ⌝ }
+{
     let j = judge(t, h.channel, h.side, h.stamp, &bytes[Record::HEAD..]);
     let entry = j.entry;
     copy(entry, bytes, made);
     j.table
 }
 
-fn copy(entry: Noted, bytes: &[u8], made: &mut [u8]) {
+fn copy(entry: Noted, bytes: &[u8], made: &mut [u8])
+    requires { ⌜ 12 ≤ length (now bytes) ⌝ }
+{
     match kind::of(entry) {
         Passed::Nothing => {
             io::write_all(1, bytes);
