@@ -25,6 +25,8 @@ use writer::ts_urb::TsUrbFields;
 use writer::urb_completion::UrbCompletionFields;
 use writer::urb_completion::UrbCompletionNoDataFields;
 use writer::urb_completion::UrbResultFields;
+ghost use Prim.Native.Nat.{_≤_};
+ghost use lib.ListN.{length};
 
 const NOTHING: Part = Part { start: 0, size: 0 };
 
@@ -76,12 +78,18 @@ fn done(id: u8, rest: Part, size: u32) -> Fields {
     )
 }
 
-// A configuration of two interfaces, and then another setting of the second.
-pub(crate) fn configured(t: Table) -> Table {
-    let mut space = bytes::CONFIGURATION;
-    let lent: &mut [u8] = &mut space;
+// Behind the descriptor.
+fn two_interfaces(lent: &mut [u8])
+    requires { ⌜ 92 ≤ length (now lent) ⌝ }
+{
     interface::write(&bytes::FIRST_INTERFACE, &mut lent[32..68]);
     interface::write(&bytes::SECOND_INTERFACE, &mut lent[68..92]);
+}
+
+// A configuration of two interfaces, and then another setting of the second.
+pub(crate) fn configured(t: Table) -> Table {
+    let mut lent = bytes::CONFIGURATION;
+    two_interfaces(&mut lent);
     let structure = Structure::SelectConfiguration(SelectConfigurationFields {
         flag: 1,
         count: 2,
@@ -92,7 +100,7 @@ pub(crate) fn configured(t: Table) -> Table {
         descriptor: Part { start: 0, size: 32 },
     });
     let u = urb(SelectConfiguration::FUNCTION, 1, false, structure);
-    let asked = server(t, transfer_in(u, 0), lent);
+    let asked = server(t, transfer_in(u, 0), &lent);
     let chosen = client(asked, done(1, NOTHING, 0), b"");
     set(chosen)
 }
