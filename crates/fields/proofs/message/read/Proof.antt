@@ -1,0 +1,61 @@
+-- `fields::message::read` meets its contract, in each arm.
+use borrow.Author.Needs.{needs}
+use Rattle.fields.specs.Message.{fieldsIn}
+use Rattle.fields.proofs.message.read.Statement.{statement}
+use Rattle.fields.proofs.message.read.Tie as tie
+
+pub read-spec : {M : Type 1} → statement M
+unfolding fieldsIn
+read-spec =
+    tie.close
+    (tie.spec
+    (search needs)
+    (search needs)
+    (search needs)
+    (search needs)
+    (search needs)
+    (search needs)
+    (search needs)
+    (search needs)
+    (search needs)
+    (search needs)
+    (search needs)
+    (search needs)
+    (search needs)
+    (search needs)
+    (search needs)
+    (search needs)
+    (search needs)
+    (search needs)
+    (search needs)
+    (search needs)
+    (search needs)
+    (search needs)
+    (search needs)
+    (search needs)
+    (search needs)
+    (search needs)
+    (search needs)
+    (search needs)
+    (search needs)
+    (search needs)
+    (search needs)
+    (search needs)
+    (search needs)
+    (search needs)
+    (λ c. rw (c .before .enum-told .given .1, ← (c .u32-at .ensures)))
+    (λ c. rw (c .before .before .enum-told2 .given .1, ← (c .before .u32-at2 .ensures), ← (c .u32-at3 .ensures)))
+    (λ c. rw (c .before .enum-told3 .given .1, ← (c .channel-created .ensures)))
+    (λ c. rw (c .before .enum-told4 .given .1, ← (c .channel-created2 .ensures)))
+    (λ c. rw (c .enum-told5 .given .1))
+    (λ c. rw (c .before .enum-told6 .given .1, ← (c .read2 .ensures)))
+    (λ c. rw (c .before .enum-told7 .given .1, c .before .before .before .number .ensures, c .before .before .before .before .read .ensures, ← (c .read3 .ensures)))
+    (λ c. rw (c .before .enum-told8 .given .1, c .before .before .before .number .ensures, c .before .before .before .before .read .ensures, ← (c .callback .ensures)))
+    (λ c. rw (c .before .enum-told9 .given .1, c .before .before .before .number .ensures, c .before .before .before .before .read .ensures, ← (c .io-control .ensures)))
+    (λ c. rw (c .before .enum-told10 .given .1, c .before .before .before .number .ensures, c .before .before .before .before .read .ensures, ← (c .io-control2 .ensures)))
+    (λ c. rw (c .before .enum-told11 .given .1, c .before .before .before .number .ensures, c .before .before .before .before .read .ensures, ← (c .read-in .ensures)))
+    (λ c. rw (c .before .enum-told12 .given .1, c .before .before .before .number .ensures, c .before .before .before .before .read .ensures, ← (c .read-out .ensures)))
+    (λ c. rw (c .before .enum-told13 .given .1, c .before .before .before .number .ensures, c .before .before .before .before .read .ensures, ← (c .u32-at4 .ensures)))
+    (λ c. rw (c .before .enum-told14 .given .1, c .before .before .before .number .ensures, c .before .before .before .before .read .ensures, ← (c .io-completion .ensures)))
+    (λ c. rw (c .before .enum-told15 .given .1, c .before .before .before .number .ensures, c .before .before .before .before .read .ensures, ← (c .read4 .ensures)))
+    (λ c. rw (c .before .enum-told16 .given .1, c .before .before .before .number .ensures, c .before .before .before .before .read .ensures, ← (c .read-no-data .ensures))))

@@ -1,0 +1,19 @@
+-- `fields::transfer::read_out` meets its contract: each of its values is the one at its place.
+use borrow.Author.Needs.{needs}
+use Rattle.fields.specs.Transfer.{transferOut}
+use Rattle.fields.proofs.transfer.read_out.Statement.{statement}
+use Rattle.fields.proofs.transfer.read_out.Tie as tie
+
+pub read-out-spec : {M : Type 1} → statement M
+unfolding transferOut
+read-out-spec =
+    tie.close
+    (tie.spec
+    (search needs)
+    (search needs)
+    (search needs)
+    (search needs)
+    (search needs)
+    (search needs)
+    (search needs)
+    (λ c. rw (← (c .before .before .u32-at .ensures), ← (c .before .urb-in .ensures), ← (c .u32-at2 .ensures))))
