@@ -49,7 +49,7 @@ use Rattle.writer.specs.Message.{bytesOf, givenIn, piecesOf, writtenOf}
 use Rattle.fields.specs.Message.{fieldsIn}
 use Rattle.writer_laws.specs.Layout.{Bytes, clearedFrom, cutsFrom, spansOf}
 use Rattle.writer_laws.specs.Rebuilt.{Rebuilt, asksSome, layoutOf}
-use Rattle.writer_laws.specs.Passed.{Again, HasKind, Passes, headIn}
+use Rattle.writer_laws.specs.Passed.{Again, HasKind, Passes, Passing, headIn}
 use Rattle.writer_laws.proofs.Cleared.{all-cleared, all-fit}
 use Rattle.writer_laws.proofs.Rebuilt as simple
 use Rattle.writer_laws.proofs.RebuiltDevice.{device-rebuilt}
@@ -80,12 +80,13 @@ rebuilt-kind kind.UrbCompletionNoData m l f b h = simple.no-data-rebuilt m l f (
 pub again : (k : Kind) (m : List ℕ) → length m ≤ 65535 → Bytes m → Rebuilt k m → Again m k
 unfolding writtenOf pieces.writtenOf
 again k m f b r =
-    record
-    { answer = λ room. rw (r .given, r .pieces, all-fit m 0 (layoutOf k m) f (omega (arith, r .spans)))
-    ; bytes = ap (pieces.encode m) (r .pieces) ∙ all-cleared m b 0 (layoutOf k m) (omega (arith, r .spans)) }
+    record {
+      answer = λ room. rw (r .given, r .pieces, all-fit m 0 (layoutOf k m) f (omega (arith, r .spans)));
+      bytes = ap (pieces.encode m) (r .pieces) ∙ all-cleared m b 0 (layoutOf k m) (omega (arith, r .spans));
+    }
 
 -- an answer that passes no check
-fails : {A : Type 0} (n : ℕ) → 1 ≤ n → n ≤ 8 → (n ≡ 0) ⊎ (9 ≤ n) → A
+fails : {A : Type 0} (n : ℕ) → 1 ≤ n → n ≤ 8 → Passing n → A
 fails n a b (inl e) = absurd (omega arith)
 fails n a b (inr e) = absurd (omega arith)
 
@@ -136,7 +137,9 @@ rebuilt first xs channel side stamp m b =
   where
     t : Table
     t = after (openOf first) xs
+
     P : Judged → Type 0
     P j = Passes (j .answer) → (k : Kind) × HasKind (channelOf t channel) side m k × Again m k
+
     done : (k : Kind) × HasKind (channelOf t channel) side m k × (12 ≤ length m) × (length m ≤ 65535) × (asksSome (askedOf k m) ≡ true) → (k : Kind) × HasKind (channelOf t channel) side m k × Again m k
     done (k, e, l, f, a) = let s = reached-sound first xs channel in (k, e, again k m f b (rebuilt-kind k m l f b (kind-head m side (channelOf t channel .device) (channelOf t channel .callback) (s .device) (s .callback) k e) a))

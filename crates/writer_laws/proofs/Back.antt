@@ -145,14 +145,16 @@ capability-request-back id b s bytes n t given wide =
     let f = p .1 .1 .0 (omega arith) .0 in
     let e3 = p .1 .1 .1 .0 (wide .1 0) .0 in
     let l = p .1 .1 .1 .1 in
-    record
-    { back = record
-      { asks = ap (λ r. asksSome (asksBy (capabilityRequestReading r))) (field-there capabilityRequest.Fails w 12 4 _ (omega (arith, l)) ∙ (ended-there capabilityRequest.Fails w 16 _ (omega (arith, l)))) ∙ some (eqb (wordAt w 12) 1) _ (rw e3 given) refl
-      ; message = message-back _ id m
-      ; numbers = same e3 refl
-      ; parts = refl }
-    ; head = record { first = h; third = f }
-    ; long = omega (arith, l) }
+    record {
+      back = record {
+        asks = ap (λ r. asksSome (asksBy (capabilityRequestReading r))) (field-there capabilityRequest.Fails w 12 4 _ (omega (arith, l)) ∙ (ended-there capabilityRequest.Fails w 16 _ (omega (arith, l)))) ∙ some (eqb (wordAt w 12) 1) _ (rw e3 given) refl;
+        message = message-back _ id m;
+        numbers = same e3 refl;
+        parts = refl;
+      };
+      head = record { first = h; third = f };
+      long = omega (arith, l);
+    }
 
 pub capability-response-back : (id : MessageId) (b : CapabilityResponse) (s : List ℕ) → Bytes s → (n : ℕ) → totalFrom (length s) 0 (piecesOf id (fields.CapabilityResponse b)) ≡ total.Fits n → capabilityResponseAllowed b ≡ true → Wide32 id (fields.CapabilityResponse b) → Back id (fields.CapabilityResponse b) s 0 0 (b .capability)
 unfolding askedOf readingOf piecesOf fieldsIn numbersOf partsOf capabilityResponseOf
@@ -164,14 +166,16 @@ capability-response-back id b s bytes n t given wide =
     let f = p .1 .1 .0 (wide .1 0) .0 in
     let e3 = p .1 .1 .1 .0 (wide .1 1) .0 in
     let l = p .1 .1 .1 .1 in
-    record
-    { back = record
-      { asks = ap (λ r. asksSome (asksBy (capabilityResponseReading r))) (field-there capabilityResponse.Fails w 8 4 _ (omega (arith, l)) ∙ (field-there capabilityResponse.Fails w 12 4 _ (omega (arith, l)) ∙ (ended-there capabilityResponse.Fails w 16 _ (omega (arith, l))))) ∙ some (eqb (wordAt w 8) 1 && succeeded (wordAt w 12)) _ (rw (f, e3) given) refl
-      ; message = message-back _ id m
-      ; numbers = same f (same e3 refl)
-      ; parts = refl }
-    ; head = record { first = h; third = f }
-    ; long = omega (arith, l) }
+    record {
+      back = record {
+        asks = ap (λ r. asksSome (asksBy (capabilityResponseReading r))) (field-there capabilityResponse.Fails w 8 4 _ (omega (arith, l)) ∙ (field-there capabilityResponse.Fails w 12 4 _ (omega (arith, l)) ∙ (ended-there capabilityResponse.Fails w 16 _ (omega (arith, l))))) ∙ some (eqb (wordAt w 8) 1 && succeeded (wordAt w 12)) _ (rw (f, e3) given) refl;
+        message = message-back _ id m;
+        numbers = same f (same e3 refl);
+        parts = refl;
+      };
+      head = record { first = h; third = f };
+      long = omega (arith, l);
+    }
 
 pub server-created-back : (id : MessageId) (b : ChannelCreated) (s : List ℕ) → Bytes s → (n : ℕ) → totalFrom (length s) 0 (piecesOf id (fields.ChannelCreatedByServer b)) ≡ total.Fits n → channelCreatedAllowed b ≡ true → Wide32 id (fields.ChannelCreatedByServer b) → Back id (fields.ChannelCreatedByServer b) s 3 1 0x100
 unfolding askedOf readingOf piecesOf fieldsIn numbersOf partsOf channelCreatedOf
@@ -185,14 +189,16 @@ server-created-back id b s bytes n t given wide =
     let e4 = p .1 .1 .1 .1 .0 (wide .1 1) .0 in
     let e5 = p .1 .1 .1 .1 .1 .0 (wide .1 2) .0 in
     let l = p .1 .1 .1 .1 .1 .1 in
-    record
-    { back = record
-      { asks = ap (λ r. asksSome (asksBy (channelCreatedReading r))) (field-there channelCreated.Fails w 12 4 _ (omega (arith, l)) ∙ (field-there channelCreated.Fails w 16 4 _ (omega (arith, l)) ∙ (field-there channelCreated.Fails w 20 4 _ (omega (arith, l)) ∙ (ended-there channelCreated.Fails w 24 _ (omega (arith, l)))))) ∙ some (eqb (wordAt w 12) 1 && (eqb (wordAt w 16) 0 && eqb (wordAt w 20) 0)) _ (rw (e3, e4, e5) given) refl
-      ; message = message-back _ id m
-      ; numbers = same e3 (same e4 (same e5 refl))
-      ; parts = refl }
-    ; head = record { first = h; third = f }
-    ; long = omega (arith, l) }
+    record {
+      back = record {
+        asks = ap (λ r. asksSome (asksBy (channelCreatedReading r))) (field-there channelCreated.Fails w 12 4 _ (omega (arith, l)) ∙ (field-there channelCreated.Fails w 16 4 _ (omega (arith, l)) ∙ (field-there channelCreated.Fails w 20 4 _ (omega (arith, l)) ∙ (ended-there channelCreated.Fails w 24 _ (omega (arith, l)))))) ∙ some (eqb (wordAt w 12) 1 && (eqb (wordAt w 16) 0 && eqb (wordAt w 20) 0)) _ (rw (e3, e4, e5) given) refl;
+        message = message-back _ id m;
+        numbers = same e3 (same e4 (same e5 refl));
+        parts = refl;
+      };
+      head = record { first = h; third = f };
+      long = omega (arith, l);
+    }
 
 pub client-created-back : (id : MessageId) (b : ChannelCreated) (s : List ℕ) → Bytes s → (n : ℕ) → totalFrom (length s) 0 (piecesOf id (fields.ChannelCreatedByClient b)) ≡ total.Fits n → channelCreatedAllowed b ≡ true → Wide32 id (fields.ChannelCreatedByClient b) → Back id (fields.ChannelCreatedByClient b) s 2 1 0x100
 unfolding askedOf readingOf piecesOf fieldsIn numbersOf partsOf channelCreatedOf
@@ -206,14 +212,16 @@ client-created-back id b s bytes n t given wide =
     let e4 = p .1 .1 .1 .1 .0 (wide .1 1) .0 in
     let e5 = p .1 .1 .1 .1 .1 .0 (wide .1 2) .0 in
     let l = p .1 .1 .1 .1 .1 .1 in
-    record
-    { back = record
-      { asks = ap (λ r. asksSome (asksBy (channelCreatedReading r))) (field-there channelCreated.Fails w 12 4 _ (omega (arith, l)) ∙ (field-there channelCreated.Fails w 16 4 _ (omega (arith, l)) ∙ (field-there channelCreated.Fails w 20 4 _ (omega (arith, l)) ∙ (ended-there channelCreated.Fails w 24 _ (omega (arith, l)))))) ∙ some (eqb (wordAt w 12) 1 && (eqb (wordAt w 16) 0 && eqb (wordAt w 20) 0)) _ (rw (e3, e4, e5) given) refl
-      ; message = message-back _ id m
-      ; numbers = same e3 (same e4 (same e5 refl))
-      ; parts = refl }
-    ; head = record { first = h; third = f }
-    ; long = omega (arith, l) }
+    record {
+      back = record {
+        asks = ap (λ r. asksSome (asksBy (channelCreatedReading r))) (field-there channelCreated.Fails w 12 4 _ (omega (arith, l)) ∙ (field-there channelCreated.Fails w 16 4 _ (omega (arith, l)) ∙ (field-there channelCreated.Fails w 20 4 _ (omega (arith, l)) ∙ (ended-there channelCreated.Fails w 24 _ (omega (arith, l)))))) ∙ some (eqb (wordAt w 12) 1 && (eqb (wordAt w 16) 0 && eqb (wordAt w 20) 0)) _ (rw (e3, e4, e5) given) refl;
+        message = message-back _ id m;
+        numbers = same e3 (same e4 (same e5 refl));
+        parts = refl;
+      };
+      head = record { first = h; third = f };
+      long = omega (arith, l);
+    }
 
 pub virtual-channel-back : (id : MessageId) (s : List ℕ) → Bytes s → (n : ℕ) → totalFrom (length s) 0 (piecesOf id (fields.AddVirtualChannel)) ≡ total.Fits n → Wide32 id (fields.AddVirtualChannel) → Back id (fields.AddVirtualChannel) s 1 1 0x100
 unfolding askedOf readingOf piecesOf fieldsIn numbersOf partsOf addVirtualChannelOf
@@ -224,14 +232,16 @@ virtual-channel-back id s bytes n t wide =
     let m = p .1 .0 (wide .0) .0 in
     let f = p .1 .1 .0 (omega arith) .0 in
     let l = p .1 .1 .1 in
-    record
-    { back = record
-      { asks = ap (λ r. asksSome (asksBy (addVirtualChannelReading r))) (ended-there addVirtualChannel.Fails w 12 _ (omega (arith, l)))
-      ; message = message-back _ id m
-      ; numbers = refl
-      ; parts = refl }
-    ; head = record { first = h; third = f }
-    ; long = omega (arith, l) }
+    record {
+      back = record {
+        asks = ap (λ r. asksSome (asksBy (addVirtualChannelReading r))) (ended-there addVirtualChannel.Fails w 12 _ (omega (arith, l)));
+        message = message-back _ id m;
+        numbers = refl;
+        parts = refl;
+      };
+      head = record { first = h; third = f };
+      long = omega (arith, l);
+    }
 
 pub cancel-back : (id : MessageId) (i : ℕ) (b : CancelRequest) (s : List ℕ) → Bytes s → (n : ℕ) → totalFrom (length s) 0 (piecesOf id (fields.CancelRequest i b)) ≡ total.Fits n → interfaceAllowed i ≡ true → Wide32 id (fields.CancelRequest i b) → Back id (fields.CancelRequest i b) s i 1 0x100
 unfolding askedOf readingOf piecesOf fieldsIn numbersOf partsOf cancelRequestOf
@@ -245,14 +255,16 @@ cancel-back id i b s bytes n t given wide =
     let e3 = p .1 .1 .1 .0 (wide .1 1) .0 in
     let l = p .1 .1 .1 .1 in
     let k = interface-back (wordAt w 0) i h b30 in
-    record
-    { back = record
-      { asks = ap (λ r. asksSome (asksBy (cancelRequestReading r))) (field-there cancelRequest.Fails w 12 4 _ (omega (arith, l)) ∙ (ended-there cancelRequest.Fails w 16 _ (omega (arith, l))))
-      ; message = message-back _ id m
-      ; numbers = same k (same e3 refl)
-      ; parts = refl }
-    ; head = record { first = h; third = f }
-    ; long = omega (arith, l) }
+    record {
+      back = record {
+        asks = ap (λ r. asksSome (asksBy (cancelRequestReading r))) (field-there cancelRequest.Fails w 12 4 _ (omega (arith, l)) ∙ (ended-there cancelRequest.Fails w 16 _ (omega (arith, l))));
+        message = message-back _ id m;
+        numbers = same k (same e3 refl);
+        parts = refl;
+      };
+      head = record { first = h; third = f };
+      long = omega (arith, l);
+    }
 
 pub retract-back : (id : MessageId) (i : ℕ) (b : RetractDevice) (s : List ℕ) → Bytes s → (n : ℕ) → totalFrom (length s) 0 (piecesOf id (fields.RetractDevice i b)) ≡ total.Fits n → (interfaceAllowed i && retractDeviceAllowed b) ≡ true → Wide32 id (fields.RetractDevice i b) → Back id (fields.RetractDevice i b) s i 1 0x107
 unfolding askedOf readingOf piecesOf fieldsIn numbersOf partsOf retractDeviceOf
@@ -266,14 +278,16 @@ retract-back id i b s bytes n t given wide =
     let e3 = p .1 .1 .1 .0 (wide .1 1) .0 in
     let l = p .1 .1 .1 .1 in
     let k = interface-back (wordAt w 0) i h b30 in
-    record
-    { back = record
-      { asks = ap (λ r. asksSome (asksBy (retractDeviceReading r))) (field-there retractDevice.Fails w 12 4 _ (omega (arith, l)) ∙ (ended-there retractDevice.Fails w 16 _ (omega (arith, l)))) ∙ some (eqb (wordAt w 12) 1) _ (rw e3 (split (interfaceAllowed i) (retractDeviceAllowed b) given .1)) refl
-      ; message = message-back _ id m
-      ; numbers = same k (same e3 refl)
-      ; parts = refl }
-    ; head = record { first = h; third = f }
-    ; long = omega (arith, l) }
+    record {
+      back = record {
+        asks = ap (λ r. asksSome (asksBy (retractDeviceReading r))) (field-there retractDevice.Fails w 12 4 _ (omega (arith, l)) ∙ (ended-there retractDevice.Fails w 16 _ (omega (arith, l)))) ∙ some (eqb (wordAt w 12) 1) _ (rw e3 (split (interfaceAllowed i) (retractDeviceAllowed b) given .1)) refl;
+        message = message-back _ id m;
+        numbers = same k (same e3 refl);
+        parts = refl;
+      };
+      head = record { first = h; third = f };
+      long = omega (arith, l);
+    }
 
 pub long-of : (l k : ℕ) → l ≡ k → 12 ≤ k → 12 ≤ l
 long-of l k e h = subst (λ x. 12 ≤ x) (sym e) h
@@ -314,14 +328,16 @@ no-callback-back id i count s bytes n t given wide =
     let k = interface-back (wordAt w 0) i h b30 in
     let z : eqb (wordAt w 12) 0 ≡ true = rw e3 (split (interfaceAllowed i) (eqb count 0) given .1) in
     let c : registerRequestCallbackOf w ≡ registerRequestCallback.Fits (record { count = wordAt w 12; callback = known.Nothing; top = 0 }) = field-there registerRequestCallback.Fails w 12 4 _ (reach (length w) 16 16 l (omega arith)) ∙ (rw z (ended-there registerRequestCallback.Fails w 16 _ (within (length w) 16 16 l (omega arith)))) in
-    record
-    { back = record
-      { asks = ap (λ r. asksSome (asksBy (registerRequestCallbackReading r))) c
-      ; message = message-back _ id m
-      ; numbers = same k (rw z (same e3 refl))
-      ; parts = refl }
-    ; head = record { first = h; third = f }
-    ; long = long-of (length w) _ l (omega arith) }
+    record {
+      back = record {
+        asks = ap (λ r. asksSome (asksBy (registerRequestCallbackReading r))) c;
+        message = message-back _ id m;
+        numbers = same k (rw z (same e3 refl));
+        parts = refl;
+      };
+      head = record { first = h; third = f };
+      long = long-of (length w) _ l (omega arith);
+    }
 
 pub callback-back : (id : MessageId) (i : ℕ) (count word : ℕ) (s : List ℕ) → Bytes s → (n : ℕ) → totalFrom (length s) 0 (piecesOf id (fields.RegisterRequestCallback i (record { count = count; completion = completes.Is word }))) ≡ total.Fits n → (interfaceAllowed i && completionAllowed count (completes.Is word)) ≡ true → Wide32 id (fields.RegisterRequestCallback i (record { count = count; completion = completes.Is word })) → Back id (fields.RegisterRequestCallback i (record { count = count; completion = completes.Is word })) s i 1 0x101
 unfolding askedOf readingOf piecesOf fieldsIn numbersOf partsOf registerRequestCallbackOf
@@ -339,14 +355,16 @@ callback-back id i count word s bytes n t given wide =
     let y = unzero (eqb count 0) (assignable (interfaceIn word)) (split (interfaceAllowed i) (completionAllowed count (completes.Is word)) given .1) in
     let z : eqb (wordAt w 12) 0 ≡ false = rw e3 (y .0) in
     let c : registerRequestCallbackOf w ≡ registerRequestCallback.Fits (record { count = wordAt w 12; callback = known.Is (interfaceIn (wordAt w 16)); top = maskIn (wordAt w 16) }) = field-there registerRequestCallback.Fails w 12 4 _ (reach (length w) 20 16 l (omega arith)) ∙ (rw z (field-there registerRequestCallback.Fails w 16 4 _ (reach (length w) 20 20 l (omega arith)) ∙ ended-there registerRequestCallback.Fails w 20 _ (within (length w) 20 20 l (omega arith)))) in
-    record
-    { back = record
-      { asks = ap (λ r. asksSome (asksBy (registerRequestCallbackReading r))) c ∙ some (assignable (interfaceIn (wordAt w 16))) _ (rw e4 (y .1)) refl
-      ; message = message-back _ id m
-      ; numbers = same k (rw z (same e3 (same e4 refl)))
-      ; parts = refl }
-    ; head = record { first = h; third = f }
-    ; long = long-of (length w) _ l (omega arith) }
+    record {
+      back = record {
+        asks = ap (λ r. asksSome (asksBy (registerRequestCallbackReading r))) c ∙ some (assignable (interfaceIn (wordAt w 16))) _ (rw e4 (y .1)) refl;
+        message = message-back _ id m;
+        numbers = same k (rw z (same e3 (same e4 refl)));
+        parts = refl;
+      };
+      head = record { first = h; third = f };
+      long = long-of (length w) _ l (omega arith);
+    }
 
 pub io-control-back : (id : MessageId) (i : ℕ) (b : IoControl) (s : List ℕ) → Bytes s → (n : ℕ) → totalFrom (length s) 0 (piecesOf id (fields.IoControl i b)) ≡ total.Fits n → (interfaceAllowed i && partAllowed s (b .input)) ≡ true → Wide32 id (fields.IoControl i b) → Back id (fields.IoControl i b) s i 1 0x102
 unfolding askedOf readingOf piecesOf fieldsIn numbersOf partsOf ioControlOf ioControlWith
@@ -364,14 +382,16 @@ io-control-back id i b s bytes n t given wide =
     let e7 = p .1 .1 .1 .1 .1 .1 .1 .0 (wide .1 3) .0 in
     let l = p .1 .1 .1 .1 .1 .1 .1 .1 in
     let k = interface-back (wordAt w 0) i h b30 in
-    record
-    { back = record
-      { asks = ap (λ r. asksSome (asksBy (ioControlReading r))) (field-there ioControl.Fails w 12 4 _ (reach (length w) (20 + b .input .size + 4 + 4) 16 l (omega arith)) ∙ (field-there ioControl.Fails w 16 4 _ (reach (length w) (20 + b .input .size + 4 + 4) 20 l (omega arith)) ∙ (field-there ioControl.Fails w 20 (wordAt w 16) _ (rw e4 (reach (length w) (20 + b .input .size + 4 + 4) (20 + b .input .size) l (omega arith))) ∙ (field-there ioControl.Fails w (20 + wordAt w 16) 4 _ (rw e4 (reach (length w) (20 + b .input .size + 4 + 4) (20 + b .input .size + 4) l (omega arith))) ∙ (field-there ioControl.Fails w (20 + wordAt w 16 + 4) 4 _ (rw e4 (reach (length w) (20 + b .input .size + 4 + 4) (20 + b .input .size + 4 + 4) l (omega arith))) ∙ (ended-there ioControl.Fails w (20 + wordAt w 16 + 8) _ (rw e4 (within (length w) (20 + b .input .size + 4 + 4) (20 + b .input .size + 8) l (omega arith)))))))))
-      ; message = message-back _ id m
-      ; numbers = same k (same e3 (same (ap (λ x. wordAt w (20 + x)) e4 ∙ e6) (same (ap (λ x. wordAt w (20 + x + 4)) e4 ∙ e7) refl)))
-      ; parts = same (ap (λ x. cut w (record { start = 20; size = x })) e4 ∙ r5) refl }
-    ; head = record { first = h; third = f }
-    ; long = long-of (length w) _ l (omega arith) }
+    record {
+      back = record {
+        asks = ap (λ r. asksSome (asksBy (ioControlReading r))) (field-there ioControl.Fails w 12 4 _ (reach (length w) (20 + b .input .size + 4 + 4) 16 l (omega arith)) ∙ (field-there ioControl.Fails w 16 4 _ (reach (length w) (20 + b .input .size + 4 + 4) 20 l (omega arith)) ∙ (field-there ioControl.Fails w 20 (wordAt w 16) _ (rw e4 (reach (length w) (20 + b .input .size + 4 + 4) (20 + b .input .size) l (omega arith))) ∙ (field-there ioControl.Fails w (20 + wordAt w 16) 4 _ (rw e4 (reach (length w) (20 + b .input .size + 4 + 4) (20 + b .input .size + 4) l (omega arith))) ∙ (field-there ioControl.Fails w (20 + wordAt w 16 + 4) 4 _ (rw e4 (reach (length w) (20 + b .input .size + 4 + 4) (20 + b .input .size + 4 + 4) l (omega arith))) ∙ (ended-there ioControl.Fails w (20 + wordAt w 16 + 8) _ (rw e4 (within (length w) (20 + b .input .size + 4 + 4) (20 + b .input .size + 8) l (omega arith)))))))));
+        message = message-back _ id m;
+        numbers = same k (same e3 (same (ap (λ x. wordAt w (20 + x)) e4 ∙ e6) (same (ap (λ x. wordAt w (20 + x + 4)) e4 ∙ e7) refl)));
+        parts = same (ap (λ x. cut w (record { start = 20; size = x })) e4 ∙ r5) refl;
+      };
+      head = record { first = h; third = f };
+      long = long-of (length w) _ l (omega arith);
+    }
 
 pub internal-back : (id : MessageId) (i : ℕ) (b : IoControl) (s : List ℕ) → Bytes s → (n : ℕ) → totalFrom (length s) 0 (piecesOf id (fields.InternalIoControl i b)) ≡ total.Fits n → (interfaceAllowed i && partAllowed s (b .input)) ≡ true → Wide32 id (fields.InternalIoControl i b) → Back id (fields.InternalIoControl i b) s i 1 0x103
 unfolding askedOf readingOf piecesOf fieldsIn numbersOf partsOf ioControlOf ioControlWith
@@ -389,14 +409,16 @@ internal-back id i b s bytes n t given wide =
     let e7 = p .1 .1 .1 .1 .1 .1 .1 .0 (wide .1 3) .0 in
     let l = p .1 .1 .1 .1 .1 .1 .1 .1 in
     let k = interface-back (wordAt w 0) i h b30 in
-    record
-    { back = record
-      { asks = ap (λ r. asksSome (asksBy (ioControlReading r))) (field-there ioControl.Fails w 12 4 _ (reach (length w) (20 + b .input .size + 4 + 4) 16 l (omega arith)) ∙ (field-there ioControl.Fails w 16 4 _ (reach (length w) (20 + b .input .size + 4 + 4) 20 l (omega arith)) ∙ (field-there ioControl.Fails w 20 (wordAt w 16) _ (rw e4 (reach (length w) (20 + b .input .size + 4 + 4) (20 + b .input .size) l (omega arith))) ∙ (field-there ioControl.Fails w (20 + wordAt w 16) 4 _ (rw e4 (reach (length w) (20 + b .input .size + 4 + 4) (20 + b .input .size + 4) l (omega arith))) ∙ (field-there ioControl.Fails w (20 + wordAt w 16 + 4) 4 _ (rw e4 (reach (length w) (20 + b .input .size + 4 + 4) (20 + b .input .size + 4 + 4) l (omega arith))) ∙ (ended-there ioControl.Fails w (20 + wordAt w 16 + 8) _ (rw e4 (within (length w) (20 + b .input .size + 4 + 4) (20 + b .input .size + 8) l (omega arith)))))))))
-      ; message = message-back _ id m
-      ; numbers = same k (same e3 (same (ap (λ x. wordAt w (20 + x)) e4 ∙ e6) (same (ap (λ x. wordAt w (20 + x + 4)) e4 ∙ e7) refl)))
-      ; parts = same (ap (λ x. cut w (record { start = 20; size = x })) e4 ∙ r5) refl }
-    ; head = record { first = h; third = f }
-    ; long = long-of (length w) _ l (omega arith) }
+    record {
+      back = record {
+        asks = ap (λ r. asksSome (asksBy (ioControlReading r))) (field-there ioControl.Fails w 12 4 _ (reach (length w) (20 + b .input .size + 4 + 4) 16 l (omega arith)) ∙ (field-there ioControl.Fails w 16 4 _ (reach (length w) (20 + b .input .size + 4 + 4) 20 l (omega arith)) ∙ (field-there ioControl.Fails w 20 (wordAt w 16) _ (rw e4 (reach (length w) (20 + b .input .size + 4 + 4) (20 + b .input .size) l (omega arith))) ∙ (field-there ioControl.Fails w (20 + wordAt w 16) 4 _ (rw e4 (reach (length w) (20 + b .input .size + 4 + 4) (20 + b .input .size + 4) l (omega arith))) ∙ (field-there ioControl.Fails w (20 + wordAt w 16 + 4) 4 _ (rw e4 (reach (length w) (20 + b .input .size + 4 + 4) (20 + b .input .size + 4 + 4) l (omega arith))) ∙ (ended-there ioControl.Fails w (20 + wordAt w 16 + 8) _ (rw e4 (within (length w) (20 + b .input .size + 4 + 4) (20 + b .input .size + 8) l (omega arith)))))))));
+        message = message-back _ id m;
+        numbers = same k (same e3 (same (ap (λ x. wordAt w (20 + x)) e4 ∙ e6) (same (ap (λ x. wordAt w (20 + x + 4)) e4 ∙ e7) refl)));
+        parts = same (ap (λ x. cut w (record { start = 20; size = x })) e4 ∙ r5) refl;
+      };
+      head = record { first = h; third = f };
+      long = long-of (length w) _ l (omega arith);
+    }
 
 pub io-completion-back : (id : MessageId) (i : ℕ) (b : IoControlCompletionFields) (s : List ℕ) → Bytes s → (n : ℕ) → totalFrom (length s) 0 (piecesOf id (fields.IoControlCompletion i b)) ≡ total.Fits n → (interfaceAllowed i && partAllowed s (b .output)) ≡ true → Wide32 id (fields.IoControlCompletion i b) → Back id (fields.IoControlCompletion i b) s i 1 0x100
 unfolding askedOf readingOf piecesOf fieldsIn numbersOf partsOf ioControlCompletionOf ioControlCompletionWith
@@ -414,14 +436,16 @@ io-completion-back id i b s bytes n t given wide =
     let r7 = p .1 .1 .1 .1 .1 .1 .1 .0 in
     let l = p .1 .1 .1 .1 .1 .1 .1 .1 in
     let k = interface-back (wordAt w 0) i h b30 in
-    record
-    { back = record
-      { asks = ap (λ r. asksSome (asksBy (ioControlCompletionReading r))) (field-there ioControlCompletion.Fails w 12 4 _ (reach (length w) (28 + b .output .size) 16 l (omega arith)) ∙ (field-there ioControlCompletion.Fails w 16 4 _ (reach (length w) (28 + b .output .size) 20 l (omega arith)) ∙ (field-there ioControlCompletion.Fails w 20 4 _ (reach (length w) (28 + b .output .size) 24 l (omega arith)) ∙ (field-there ioControlCompletion.Fails w 24 4 _ (reach (length w) (28 + b .output .size) 28 l (omega arith)) ∙ (field-there ioControlCompletion.Fails w 28 (wordAt w 24) _ (rw e6 (reach (length w) (28 + b .output .size) (28 + b .output .size) l (omega arith))) ∙ (ended-there ioControlCompletion.Fails w (28 + wordAt w 24) _ (rw e6 (within (length w) (28 + b .output .size) (28 + b .output .size) l (omega arith)))))))))
-      ; message = message-back _ id m
-      ; numbers = same k (same e3 (same e4 (same e5 refl)))
-      ; parts = same (ap (λ x. cut w (record { start = 28; size = x })) e6 ∙ r7) refl }
-    ; head = record { first = h; third = f }
-    ; long = long-of (length w) _ l (omega arith) }
+    record {
+      back = record {
+        asks = ap (λ r. asksSome (asksBy (ioControlCompletionReading r))) (field-there ioControlCompletion.Fails w 12 4 _ (reach (length w) (28 + b .output .size) 16 l (omega arith)) ∙ (field-there ioControlCompletion.Fails w 16 4 _ (reach (length w) (28 + b .output .size) 20 l (omega arith)) ∙ (field-there ioControlCompletion.Fails w 20 4 _ (reach (length w) (28 + b .output .size) 24 l (omega arith)) ∙ (field-there ioControlCompletion.Fails w 24 4 _ (reach (length w) (28 + b .output .size) 28 l (omega arith)) ∙ (field-there ioControlCompletion.Fails w 28 (wordAt w 24) _ (rw e6 (reach (length w) (28 + b .output .size) (28 + b .output .size) l (omega arith))) ∙ (ended-there ioControlCompletion.Fails w (28 + wordAt w 24) _ (rw e6 (within (length w) (28 + b .output .size) (28 + b .output .size) l (omega arith)))))))));
+        message = message-back _ id m;
+        numbers = same k (same e3 (same e4 (same e5 refl)));
+        parts = same (ap (λ x. cut w (record { start = 28; size = x })) e6 ∙ r7) refl;
+      };
+      head = record { first = h; third = f };
+      long = long-of (length w) _ l (omega arith);
+    }
 
 pub urb-completion-back : (id : MessageId) (i : ℕ) (b : UrbCompletionFields) (s : List ℕ) → Bytes s → (n : ℕ) → totalFrom (length s) 0 (piecesOf id (fields.UrbCompletion i b)) ≡ total.Fits n → urbCompletionGiven s i b ≡ true → Wide32 id (fields.UrbCompletion i b) → Back id (fields.UrbCompletion i b) s i 1 0x101
 unfolding askedOf readingOf piecesOf fieldsIn numbersOf partsOf urbCompletionOf withOutputOf completionOf completionWith completedOf urbCompletionIn noDataIn
@@ -448,14 +472,16 @@ urb-completion-back id i b s bytes n t given wide =
     let z4 : 20 + wordAt w 16 + 4 ≡ 28 + b .urb .rest .size + 4 = ap (λ x. x + 4) z in
     let z8 : 20 + wordAt w 16 + 8 ≡ 28 + b .urb .rest .size + 4 + 4 = rw q (omega arith) in
     let s9 : wordAt w (20 + wordAt w 16 + 4) ≡ b .output .size = ap (λ x. wordAt w x) z4 ∙ e9 in
-    record
-    { back = record
-      { asks = ap (λ r. asksSome (asksBy (urbCompletionReading (withOutputFrom w r)))) (field-there completion.Fails w 12 4 _ (reach (length w) (28 + b .urb .rest .size + 4 + 4 + b .output .size) 16 l (omega arith)) ∙ (field-there completion.Fails w 16 4 _ (reach (length w) (28 + b .urb .rest .size + 4 + 4 + b .output .size) 20 l (omega arith)) ∙ (atLeast-there completion.Fails 8 (wordAt w 16) 16 _ (rw q (omega arith)) ∙ (field-there completion.Fails w 20 (wordAt w 16) _ (rw q (reach (length w) (28 + b .urb .rest .size + 4 + 4 + b .output .size) (20 + (8 + b .urb .rest .size)) l (omega arith))) ∙ (agrees-there completion.Fails (eqb (halfAt w 20) (wordAt w 16)) 20 _ (eq-eqb (halfAt w 20) (wordAt w 16) (x20 ∙ sym q)) ∙ (field-there completion.Fails w (20 + wordAt w 16) 4 _ (rw q (reach (length w) (28 + b .urb .rest .size + 4 + 4 + b .output .size) (20 + (8 + b .urb .rest .size) + 4) l (omega arith))) ∙ (field-there completion.Fails w (20 + wordAt w 16 + 4) 4 _ (rw q (reach (length w) (28 + b .urb .rest .size + 4 + 4 + b .output .size) (20 + (8 + b .urb .rest .size) + 4 + 4) l (omega arith)))))))))) ∙ (ap (λ r. asksSome (asksBy (urbCompletionReading r))) (field-there urbCompletion.Fails w (20 + wordAt w 16 + 8) (wordAt w (20 + wordAt w 16 + 4)) _ (rw (z8, s9) (reach (length w) (28 + b .urb .rest .size + 4 + 4 + b .output .size) (28 + b .urb .rest .size + 4 + 4 + b .output .size) l (omega arith))) ∙ (ended-there urbCompletion.Fails w (20 + wordAt w 16 + 8 + wordAt w (20 + wordAt w 16 + 4)) _ (rw (z8, s9) (within (length w) (28 + b .urb .rest .size + 4 + 4 + b .output .size) (28 + b .urb .rest .size + 4 + 4 + b .output .size) l (omega arith))))) ∙ some (not (eqb (wordAt w (20 + wordAt w 16 + 4)) 0)) _ (rw s9 (split (partAllowed s (b .output)) (not (eqb (b .output .size) 0)) (split (resultGiven s i (b .urb)) (partAllowed s (b .output) && not (eqb (b .output .size) 0)) given .1) .1)) refl)
-      ; message = message-back _ id m
-      ; numbers = same k (same e3 (same e6 (same (ap (λ x. wordAt w x) z ∙ e8) refl)))
-      ; parts = same (ap (λ x. cut w (record { start = 28; size = x })) o ∙ r7) (same (ap (λ x. cut w (record { start = x; size = wordAt w (20 + wordAt w 16 + 4) })) z8 ∙ (ap (λ x. cut w (record { start = 28 + b .urb .rest .size + 4 + 4; size = x })) s9 ∙ r10)) refl) }
-    ; head = record { first = h; third = f }
-    ; long = long-of (length w) _ l (omega arith) }
+    record {
+      back = record {
+        asks = ap (λ r. asksSome (asksBy (urbCompletionReading (withOutputFrom w r)))) (field-there completion.Fails w 12 4 _ (reach (length w) (28 + b .urb .rest .size + 4 + 4 + b .output .size) 16 l (omega arith)) ∙ (field-there completion.Fails w 16 4 _ (reach (length w) (28 + b .urb .rest .size + 4 + 4 + b .output .size) 20 l (omega arith)) ∙ (atLeast-there completion.Fails 8 (wordAt w 16) 16 _ (rw q (omega arith)) ∙ (field-there completion.Fails w 20 (wordAt w 16) _ (rw q (reach (length w) (28 + b .urb .rest .size + 4 + 4 + b .output .size) (20 + (8 + b .urb .rest .size)) l (omega arith))) ∙ (agrees-there completion.Fails (eqb (halfAt w 20) (wordAt w 16)) 20 _ (eq-eqb (halfAt w 20) (wordAt w 16) (x20 ∙ sym q)) ∙ (field-there completion.Fails w (20 + wordAt w 16) 4 _ (rw q (reach (length w) (28 + b .urb .rest .size + 4 + 4 + b .output .size) (20 + (8 + b .urb .rest .size) + 4) l (omega arith))) ∙ (field-there completion.Fails w (20 + wordAt w 16 + 4) 4 _ (rw q (reach (length w) (28 + b .urb .rest .size + 4 + 4 + b .output .size) (20 + (8 + b .urb .rest .size) + 4 + 4) l (omega arith)))))))))) ∙ (ap (λ r. asksSome (asksBy (urbCompletionReading r))) (field-there urbCompletion.Fails w (20 + wordAt w 16 + 8) (wordAt w (20 + wordAt w 16 + 4)) _ (rw (z8, s9) (reach (length w) (28 + b .urb .rest .size + 4 + 4 + b .output .size) (28 + b .urb .rest .size + 4 + 4 + b .output .size) l (omega arith))) ∙ (ended-there urbCompletion.Fails w (20 + wordAt w 16 + 8 + wordAt w (20 + wordAt w 16 + 4)) _ (rw (z8, s9) (within (length w) (28 + b .urb .rest .size + 4 + 4 + b .output .size) (28 + b .urb .rest .size + 4 + 4 + b .output .size) l (omega arith))))) ∙ some (not (eqb (wordAt w (20 + wordAt w 16 + 4)) 0)) _ (rw s9 (split (partAllowed s (b .output)) (not (eqb (b .output .size) 0)) (split (resultGiven s i (b .urb)) (partAllowed s (b .output) && not (eqb (b .output .size) 0)) given .1) .1)) refl);
+        message = message-back _ id m;
+        numbers = same k (same e3 (same e6 (same (ap (λ x. wordAt w x) z ∙ e8) refl)));
+        parts = same (ap (λ x. cut w (record { start = 28; size = x })) o ∙ r7) (same (ap (λ x. cut w (record { start = x; size = wordAt w (20 + wordAt w 16 + 4) })) z8 ∙ (ap (λ x. cut w (record { start = 28 + b .urb .rest .size + 4 + 4; size = x })) s9 ∙ r10)) refl);
+      };
+      head = record { first = h; third = f };
+      long = long-of (length w) _ l (omega arith);
+    }
 
 pub no-data-back : (id : MessageId) (i : ℕ) (b : UrbCompletionNoDataFields) (s : List ℕ) → Bytes s → (n : ℕ) → totalFrom (length s) 0 (piecesOf id (fields.UrbCompletionNoData i b)) ≡ total.Fits n → resultGiven s i (b .urb) ≡ true → Wide32 id (fields.UrbCompletionNoData i b) → Back id (fields.UrbCompletionNoData i b) s i 1 0x102
 unfolding askedOf readingOf piecesOf fieldsIn numbersOf partsOf urbCompletionNoDataOf completionOf completionWith completedOf urbCompletionIn noDataIn
@@ -479,11 +505,13 @@ no-data-back id i b s bytes n t given wide =
     let z : 20 + wordAt w 16 ≡ 28 + b .urb .rest .size = rw q (omega arith) in
     let o : wordAt w 16 - 8 ≡ b .urb .rest .size = rw q (omega arith) in
     let z4 : 20 + wordAt w 16 + 4 ≡ 28 + b .urb .rest .size + 4 = ap (λ x. x + 4) z in
-    record
-    { back = record
-      { asks = ap (λ r. asksSome (asksBy (urbCompletionNoDataReading (noDataFrom w r)))) (field-there completion.Fails w 12 4 _ (reach (length w) (28 + b .urb .rest .size + 4 + 4 + 0) 16 l (omega arith)) ∙ (field-there completion.Fails w 16 4 _ (reach (length w) (28 + b .urb .rest .size + 4 + 4 + 0) 20 l (omega arith)) ∙ (atLeast-there completion.Fails 8 (wordAt w 16) 16 _ (rw q (omega arith)) ∙ (field-there completion.Fails w 20 (wordAt w 16) _ (rw q (reach (length w) (28 + b .urb .rest .size + 4 + 4 + 0) (20 + (8 + b .urb .rest .size)) l (omega arith))) ∙ (agrees-there completion.Fails (eqb (halfAt w 20) (wordAt w 16)) 20 _ (eq-eqb (halfAt w 20) (wordAt w 16) (x20 ∙ sym q)) ∙ (field-there completion.Fails w (20 + wordAt w 16) 4 _ (rw q (reach (length w) (28 + b .urb .rest .size + 4 + 4 + 0) (20 + (8 + b .urb .rest .size) + 4) l (omega arith))) ∙ (field-there completion.Fails w (20 + wordAt w 16 + 4) 4 _ (rw q (reach (length w) (28 + b .urb .rest .size + 4 + 4 + 0) (20 + (8 + b .urb .rest .size) + 4 + 4) l (omega arith)))))))))) ∙ (ap (λ r. asksSome (asksBy (urbCompletionNoDataReading r))) (ended-there urbCompletionNoData.Fails w (20 + wordAt w 16 + 8) _ (rw q (within (length w) (28 + b .urb .rest .size + 4 + 4 + 0) (20 + (8 + b .urb .rest .size) + 8) l (omega arith)))))
-      ; message = message-back _ id m
-      ; numbers = same k (same e3 (same e6 (same (ap (λ x. wordAt w x) z ∙ e8) (same (ap (λ x. wordAt w x) z4 ∙ e9) refl))))
-      ; parts = same (ap (λ x. cut w (record { start = 28; size = x })) o ∙ r7) refl }
-    ; head = record { first = h; third = f }
-    ; long = long-of (length w) _ l (omega arith) }
+    record {
+      back = record {
+        asks = ap (λ r. asksSome (asksBy (urbCompletionNoDataReading (noDataFrom w r)))) (field-there completion.Fails w 12 4 _ (reach (length w) (28 + b .urb .rest .size + 4 + 4 + 0) 16 l (omega arith)) ∙ (field-there completion.Fails w 16 4 _ (reach (length w) (28 + b .urb .rest .size + 4 + 4 + 0) 20 l (omega arith)) ∙ (atLeast-there completion.Fails 8 (wordAt w 16) 16 _ (rw q (omega arith)) ∙ (field-there completion.Fails w 20 (wordAt w 16) _ (rw q (reach (length w) (28 + b .urb .rest .size + 4 + 4 + 0) (20 + (8 + b .urb .rest .size)) l (omega arith))) ∙ (agrees-there completion.Fails (eqb (halfAt w 20) (wordAt w 16)) 20 _ (eq-eqb (halfAt w 20) (wordAt w 16) (x20 ∙ sym q)) ∙ (field-there completion.Fails w (20 + wordAt w 16) 4 _ (rw q (reach (length w) (28 + b .urb .rest .size + 4 + 4 + 0) (20 + (8 + b .urb .rest .size) + 4) l (omega arith))) ∙ (field-there completion.Fails w (20 + wordAt w 16 + 4) 4 _ (rw q (reach (length w) (28 + b .urb .rest .size + 4 + 4 + 0) (20 + (8 + b .urb .rest .size) + 4 + 4) l (omega arith)))))))))) ∙ (ap (λ r. asksSome (asksBy (urbCompletionNoDataReading r))) (ended-there urbCompletionNoData.Fails w (20 + wordAt w 16 + 8) _ (rw q (within (length w) (28 + b .urb .rest .size + 4 + 4 + 0) (20 + (8 + b .urb .rest .size) + 8) l (omega arith)))));
+        message = message-back _ id m;
+        numbers = same k (same e3 (same e6 (same (ap (λ x. wordAt w x) z ∙ e8) (same (ap (λ x. wordAt w x) z4 ∙ e9) refl))));
+        parts = same (ap (λ x. cut w (record { start = 28; size = x })) o ∙ r7) refl;
+      };
+      head = record { first = h; third = f };
+      long = long-of (length w) _ l (omega arith);
+    }

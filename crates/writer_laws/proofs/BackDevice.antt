@@ -82,6 +82,7 @@ unit-in w s p q k g z e = rw z (go (ltb (q .size) k) (λ h. half-in w s p q (q .
   where
     fits : k ≤ q .size → q .size - k + 2 ≤ p .size
     fits h = omega arith
+
     go : (t : Bool) → (k ≤ q .size → halfAt w (p .start + (q .size - k)) ≡ halfAt s (q .start + (q .size - k))) → cond (ltb (q .size) k) 0 (halfAt w (p .start + (q .size - k))) ≡ cond (ltb (q .size) k) 0 (halfAt s (q .start + (q .size - k)))
     go t f = pick (ltb (q .size) k) refl
       where
@@ -127,10 +128,13 @@ device-there m l =
   where
     early : (a b c d l k : ℕ) → l ≡ 20 + 4 + a + 4 + b + 4 + c + 4 + d + 28 → k ≤ 20 → k ≤ l
     early a b c d l k e h = omega arith
+
     middle : (x c d l : ℕ) → l ≡ x + 4 + c + 4 + d + 28 → x ≤ l
     middle x c d l e = omega arith
+
     end : (x l : ℕ) → l ≡ x + 28 → x ≤ l
     end x l e = omega arith
+
     room : (x l : ℕ) → l ≡ x + 28 → 28 ≤ l - x
     room x l e = omega arith
 
@@ -214,31 +218,41 @@ device-back id b s bytes n t given wide =
     let k2 : assignable (interfaceIn (wordAt w 16)) ≡ true = rw e4 (g1 .0) in
     let allowed : addDeviceAllowed (found w) ≡ true = all-of _ _ _ _ _ _ _ k1 k2 t1 t2 t4 t3 k6 in
     let l = pd .1 .1 .1 .1 .1 .1 .1 ∙ (plus-28 at ∙ sym (ap (λ z. z + 28) (x4 .0))) in
-    record
-    { back = record
-      { asks = ap (λ r. asksSome (asksBy (addDeviceReading r))) (device-there w l) ∙ some (addDeviceAllowed (found w)) _ allowed refl
-      ; message = message-back _ id m
-      ; numbers = same e3 (same e4 (same c0 (same c1 (same c2 (same c3 (same c4 (same c5 (same c6 refl))))))))
-      ; parts = same r1 (same r2 (same r3 (same r4 refl))) }
-    ; head = record { first = h; third = f }
-    ; long = long-of (length w) _ l (far (last w) (2 * wordAt w (third w)) (2 * wordAt w (second w (third w)))) }
+    record {
+      back = record {
+        asks = ap (λ r. asksSome (asksBy (addDeviceReading r))) (device-there w l) ∙ some (addDeviceAllowed (found w)) _ allowed refl;
+        message = message-back _ id m;
+        numbers = same e3 (same e4 (same c0 (same c1 (same c2 (same c3 (same c4 (same c5 (same c6 refl))))))));
+        parts = same r1 (same r2 (same r3 (same r4 refl)));
+      };
+      head = record { first = h; third = f };
+      long = long-of (length w) _ l (far (last w) (2 * wordAt w (third w)) (2 * wordAt w (second w (third w))));
+    }
   where
     plus-8 : (x : ℕ) → x + 8 ≡ x + 4 + 4
     plus-8 x = omega arith
+
     plus-12 : (x : ℕ) → x + 12 ≡ x + 4 + 4 + 4
     plus-12 x = omega arith
+
     plus-16 : (x : ℕ) → x + 16 ≡ x + 4 + 4 + 4 + 4
     plus-16 x = omega arith
+
     plus-20 : (x : ℕ) → x + 20 ≡ x + 4 + 4 + 4 + 4 + 4
     plus-20 x = omega arith
+
     plus-24 : (x : ℕ) → x + 24 ≡ x + 4 + 4 + 4 + 4 + 4 + 4
     plus-24 x = omega arith
+
     plus-28 : (x : ℕ) → x + 4 + 4 + 4 + 4 + 4 + 4 + 4 ≡ x + 28
     plus-28 x = omega arith
+
     far : (x c d : ℕ) → 12 ≤ x + 28
     far x c d = omega arith
+
     all-of : (a b c d e f g : Bool) → a ≡ true → b ≡ true → c ≡ true → d ≡ true → e ≡ true → f ≡ true → g ≡ true → (a && (b && ((c && d) && ((e && f) && g)))) ≡ true
     all-of a b c d e f g pa pb pc pd pe pf pg = rw (pa, pb, pc, pd, pe, pf, pg)
+
     caps-kept : (w : List ℕ) (c : DeviceCapabilities) (a0 a1 a2 a3 a4 a5 a6 : ℕ) → a0 ≡ c .size → a1 ≡ c .bus → a2 ≡ c .usbdi → a3 ≡ c .usb → a4 ≡ c .host → a5 ≡ c .speed → a6 ≡ c .jitter → capabilitiesAllowed c ≡ true
         → capabilitiesAllowed (record { size = a0; bus = a1; usbdi = a2; usb = a3; host = a4; speed = a5; jitter = a6 }) ≡ true
     caps-kept w c a0 a1 a2 a3 a4 a5 a6 e0 e1 e2 e3 e4 e5 e6 h = rw (e0, e1, e2, e3, e4, e5, e6) h

@@ -97,6 +97,7 @@ list-rows s p count pipes e a =
   where
     none : {A : Type 0} {pipes : ℕ} → listed.Nothing ≡ listed.Pipes pipes → A
     none e = absurd (omega (arith, (let z : _≡_ {A = ℕ} 0 1 = cc in z)))
+
     fills : (end : ℕ) (x : Walk) (pipes : ℕ) → listedBy end x ≡ listed.Pipes pipes → x ≡ walk.End end pipes
     fills end (walk.End last k) pipes e = go (eqb last end) refl e
       where
@@ -183,12 +184,14 @@ request-kept r true w h e = (rw e (as-request ((0x8000_0000 + r .0) % 0x8000_000
   where
     upper : (x : ℕ) → x < 0x8000_0000 → (0x8000_0000 + x) % 0x8000_0000 ≡ x
     upper x h = omega arith
+
     as-request : (x : ℕ) (r : RequestId) → x ≡ r .0 → _≡_ {A = RequestId} (record { 0 = x }) r
     as-request x r e = rw e
 request-kept r false w h e = (rw e (as-request (r .0 % 0x8000_0000) r (lower (r .0) h)), rw e (lt-leb 0x8000_0000 (r .0) h))
   where
     lower : (x : ℕ) → x < 0x8000_0000 → x % 0x8000_0000 ≡ x
     lower x h = omega arith
+
     as-request : (x : ℕ) (r : RequestId) → x ≡ r .0 → _≡_ {A = RequestId} (record { 0 = x }) r
     as-request x r e = rw e
 
@@ -230,34 +233,42 @@ kept w s t size output x fits e r small narrow p =
     let k = request-kept (t .request) (t .noack) (wordAt u 20) r (word-take w (16 + c) 20 (shorter c (eight (t .structure)) 24 (omega arith)) ∙ e20) in
     let b = structure-back w s c there (t .function) (t .structure) x (Word size ∷ Run output ∷ []) e refl (p .1 .1 .1) narrow in
     let lu : left u 16 ≡ c = left-of (length u) c (length-take-le (16 + c) w there) in
-    record
-    { found = b .found
-    ; cb = e12
-    ; long = l
-    ; reads = ap (λ n. tsUrbOf (take (16 + n) w)) e12 ∙ (agrees-there ts.Fails (eqb (halfAt u 16) (left u 16)) 16 _ (eq-eqb (halfAt u 16) (left u 16) (h16 ∙ sym lu)) ∙
-        (ap (λ n. urbWith u (structureOf u n)) h18 ∙ (ap (urbWith u) (b .reads) ∙ rw (h16, h18, k .0, k .1))))
-    ; allowed = b .allowed
-    ; only = b .only
-    ; mayno = b .noack
-    ; numbers = b .numbers
-    ; parts = b .parts
-    ; last = sk .0 small .0
-    ; output = sk .1 .0 }
+    record {
+      found = b .found;
+      cb = e12;
+      long = l;
+      reads = ap (λ n. tsUrbOf (take (16 + n) w)) e12 ∙ (agrees-there ts.Fails (eqb (halfAt u 16) (left u 16)) 16 _ (eq-eqb (halfAt u 16) (left u 16) (h16 ∙ sym lu)) ∙
+          (ap (λ n. urbWith u (structureOf u n)) h18 ∙ (ap (urbWith u) (b .reads) ∙ rw (h16, h18, k .0, k .1))));
+      allowed = b .allowed;
+      only = b .only;
+      mayno = b .noack;
+      numbers = b .numbers;
+      parts = b .parts;
+      last = sk .0 small .0;
+      output = sk .1 .0;
+    }
   where
     begins : (x d l : ℕ) → l ≡ x + 4 + d → x ≤ l
     begins x d l e = omega arith
+
     below : (c d l : ℕ) → l ≡ 16 + c + 4 + d → l ≤ 65535 → c < 65536
     below c d l e h = omega arith
+
     wide : (c : ℕ) → c < 65536 → c < 4294967296
     wide c h = omega arith
+
     pairs : (c f : ℕ) → c < 65536 → f ≤ 30 → c + 65536 * f < 4294967296
     pairs c f h g = omega arith
+
     low : (c f : ℕ) → c < 65536 → (c + 65536 * f) % 65536 ≡ c
     low c f h = omega arith
+
     high : (c f : ℕ) → c < 65536 → (c + 65536 * f) / 65536 ≡ f
     high c f h = omega arith
+
     shorter : (c : ℕ) → 8 ≤ c → (k : ℕ) → k ≤ 24 → k ≤ 16 + c
     shorter c h k g = omega arith
+
     left-of : (l c : ℕ) → l ≡ 16 + c → l - 16 ≡ c
     left-of l c e = omega arith
 
@@ -317,18 +328,20 @@ in-back id i b s bytes n t given wide =
     let a1 = split (not (b .urb .noack)) (urbAllowed (x .0) && cond (onlyIn (x .0)) (eqb (b .size) 0) true) (x .2) in
     let a2 = split (urbAllowed (x .0)) (cond (onlyIn (x .0)) (eqb (b .size) 0) true) (a1 .1) in
     let allowed : transferInRequestAllowed (record { urb = record { size = structureSize (b .urb .structure); function = b .urb .function; request = b .urb .request; noack = b .urb .noack; urb = q .found }; size = wordAt w (16 + wordAt w 12) }) ≡ true = both {a = not (b .urb .noack)} (a1 .0) (both {a = urbAllowed (q .found)} (q .allowed ∙ a2 .0) (rw (q .only, z) (a2 .1))) in
-    record
-    { back = record
-      { asks = ap (λ r. asksSome (asksBy (transferInRequestReading (incomingFrom w r))))
-          (field-there transfer.Fails w 12 4 _ (reach-16 w c 0 (q .cb) (q .long) (eight (b .urb .structure))) ∙ (atLeast-there transfer.Fails 8 (wordAt w 12) 12 _ (rw (q .cb) (eight (b .urb .structure))) ∙
-          (field-there transfer.Fails w 16 (wordAt w 12) _ (urb-there w c 0 (q .cb) (q .long) (eight (b .urb .structure))) ∙ (ap (transferFrom w (16 + wordAt w 12)) (q .reads) ∙ field-there transfer.Fails w (16 + wordAt w 12) 4 _ (size-there w c 0 (q .cb) (q .long) (eight (b .urb .structure))))))) ∙
-          (ap (λ r. asksSome (asksBy (transferInRequestReading r))) (filled-there transferInRequest.Fails (16 + c) (16 + wordAt w 12) _ (filled-up w c 0 (q .cb) (q .long) (eight (b .urb .structure))) ∙ ended-there transferInRequest.Fails w (16 + wordAt w 12 + 4) _ (ends w c 0 (q .cb) (q .long) (eight (b .urb .structure)) refl)) ∙
-          some (transferInRequestAllowed (record { urb = record { size = structureSize (b .urb .structure); function = b .urb .function; request = b .urb .request; noack = b .urb .noack; urb = q .found }; size = wordAt w (16 + wordAt w 12) })) _ allowed refl)
-      ; message = message-back _ id m
-      ; numbers = same (interface-back (wordAt w 0) i h b30) (same z (rw (q .reads) (urb-same (b .urb .function) (b .urb .request .0) (b .urb .noack) _ _ (q .numbers))))
-      ; parts = rw (q .reads) (q .parts) }
-    ; head = record { first = h; third = f }
-    ; long = long-of (length w) _ (q .long) (omega arith) }
+    record {
+      back = record {
+        asks = ap (λ r. asksSome (asksBy (transferInRequestReading (incomingFrom w r))))
+            (field-there transfer.Fails w 12 4 _ (reach-16 w c 0 (q .cb) (q .long) (eight (b .urb .structure))) ∙ (atLeast-there transfer.Fails 8 (wordAt w 12) 12 _ (rw (q .cb) (eight (b .urb .structure))) ∙
+            (field-there transfer.Fails w 16 (wordAt w 12) _ (urb-there w c 0 (q .cb) (q .long) (eight (b .urb .structure))) ∙ (ap (transferFrom w (16 + wordAt w 12)) (q .reads) ∙ field-there transfer.Fails w (16 + wordAt w 12) 4 _ (size-there w c 0 (q .cb) (q .long) (eight (b .urb .structure))))))) ∙
+            (ap (λ r. asksSome (asksBy (transferInRequestReading r))) (filled-there transferInRequest.Fails (16 + c) (16 + wordAt w 12) _ (filled-up w c 0 (q .cb) (q .long) (eight (b .urb .structure))) ∙ ended-there transferInRequest.Fails w (16 + wordAt w 12 + 4) _ (ends w c 0 (q .cb) (q .long) (eight (b .urb .structure)) refl)) ∙
+            some (transferInRequestAllowed (record { urb = record { size = structureSize (b .urb .structure); function = b .urb .function; request = b .urb .request; noack = b .urb .noack; urb = q .found }; size = wordAt w (16 + wordAt w 12) })) _ allowed refl);
+        message = message-back _ id m;
+        numbers = same (interface-back (wordAt w 0) i h b30) (same z (rw (q .reads) (urb-same (b .urb .function) (b .urb .request .0) (b .urb .noack) _ _ (q .numbers))));
+        parts = rw (q .reads) (q .parts);
+      };
+      head = record { first = h; third = f };
+      long = long-of (length w) _ (q .long) (omega arith);
+    }
 
 pub out-back : (id : MessageId) (i : ℕ) (b : TransferOutFields) (s : List ℕ) → Bytes s → (n : ℕ) → pieces.totalFrom (length s) 0 (piecesOf id (fields.TransferOutRequest i b)) ≡ total.Fits n → transferOutGiven s i b ≡ true → Wide32 id (fields.TransferOutRequest i b) → Back id (fields.TransferOutRequest i b) s i 1 0x106 × (r : Request) × (askedOf kind.TransferOutRequest (bytesOf id (fields.TransferOutRequest i b) s) ≡ asks.TransferOut r) × (r .noack ≡ b .urb .noack)
 unfolding askedOf readingOf piecesOf fieldsIn transferOut numbersOf partsOf transferOutGiven transferOutRequestOf transferOf transferWith outputOf outgoingOf transferOutRequestAllowed
@@ -352,16 +365,22 @@ out-back id i b s bytes n t given wide =
     let a2 = split (not (onlyIn (x .0))) (cond (b .urb .noack) (mayNoAck (x .0)) true) (a1 .1) in
     let allowed : transferOutRequestAllowed (record { urb = record { size = structureSize (b .urb .structure); function = b .urb .function; request = b .urb .request; noack = b .urb .noack; urb = q .found }; size = wordAt w (16 + wordAt w 12); output = record { start = 16 + wordAt w 12 + 4; size = wordAt w (16 + wordAt w 12) } }) ≡ true = both {a = urbAllowed (q .found)} (q .allowed ∙ a1 .0) (both {a = not (onlyIn (q .found))} (ap not (q .only) ∙ a2 .0) (rw (q .mayno) (a2 .1))) in
     let asked : askedOf kind.TransferOutRequest w ≡ asks.TransferOut (record { request = b .urb .request; size = wordAt w (16 + wordAt w 12); noack = b .urb .noack; payload = record { start = 16 + wordAt w 12 + 4; size = wordAt w (16 + wordAt w 12) } }) = ap (λ r. asksBy (transferOutRequestReading (outgoingFrom w r)))
-          (field-there transfer.Fails w 12 4 _ (reach-16 w c d (q .cb) (q .long) (eight (b .urb .structure))) ∙ (atLeast-there transfer.Fails 8 (wordAt w 12) 12 _ (rw (q .cb) (eight (b .urb .structure))) ∙
-          (field-there transfer.Fails w 16 (wordAt w 12) _ (urb-there w c d (q .cb) (q .long) (eight (b .urb .structure))) ∙ (ap (transferFrom w (16 + wordAt w 12)) (q .reads) ∙ field-there transfer.Fails w (16 + wordAt w 12) 4 _ (size-there w c d (q .cb) (q .long) (eight (b .urb .structure))))))) ∙
-          (ap (λ r. asksBy (transferOutRequestReading r)) (field-there transferOutRequest.Fails w (16 + wordAt w 12 + 4) (wordAt w (16 + wordAt w 12)) _ (data-there w c d (q .cb) (q .long) (eight (b .urb .structure)) _ z) ∙
-          (filled-there transferOutRequest.Fails (16 + c) (16 + wordAt w 12) _ (filled-up w c d (q .cb) (q .long) (eight (b .urb .structure))) ∙ ended-there transferOutRequest.Fails w (16 + wordAt w 12 + 4 + wordAt w (16 + wordAt w 12)) _ (data-ends w c d (q .cb) (q .long) (eight (b .urb .structure)) _ z))) ∙
-          rw allowed) in
-    (record
-    { back = record
-      { asks = ap asksSome asked
-      ; message = message-back _ id m
-      ; numbers = same (interface-back (wordAt w 0) i h b30) (rw (q .reads) (urb-same (b .urb .function) (b .urb .request .0) (b .urb .noack) _ _ (q .numbers)))
-      ; parts = same (ap (λ y. pieces.cut w (record { start = 16 + y + 4; size = wordAt w (16 + wordAt w 12) })) (q .cb) ∙ (ap (λ y. pieces.cut w (record { start = 16 + c + 4; size = y })) z ∙ q .output)) (rw (q .reads) (q .parts)) }
-    ; head = record { first = h; third = f }
-    ; long = long-of (length w) _ (q .long) (omega arith) }, (record { request = b .urb .request; size = wordAt w (16 + wordAt w 12); noack = b .urb .noack; payload = record { start = 16 + wordAt w 12 + 4; size = wordAt w (16 + wordAt w 12) } }), asked, refl)
+    (field-there transfer.Fails w 12 4 _ (reach-16 w c d (q .cb) (q .long) (eight (b .urb .structure))) ∙ (atLeast-there transfer.Fails 8 (wordAt w 12) 12 _ (rw (q .cb) (eight (b .urb .structure))) ∙
+    (field-there transfer.Fails w 16 (wordAt w 12) _ (urb-there w c d (q .cb) (q .long) (eight (b .urb .structure))) ∙ (ap (transferFrom w (16 + wordAt w 12)) (q .reads) ∙ field-there transfer.Fails w (16 + wordAt w 12) 4 _ (size-there w c d (q .cb) (q .long) (eight (b .urb .structure))))))) ∙
+    (ap (λ r. asksBy (transferOutRequestReading r)) (field-there transferOutRequest.Fails w (16 + wordAt w 12 + 4) (wordAt w (16 + wordAt w 12)) _ (data-there w c d (q .cb) (q .long) (eight (b .urb .structure)) _ z) ∙
+    (filled-there transferOutRequest.Fails (16 + c) (16 + wordAt w 12) _ (filled-up w c d (q .cb) (q .long) (eight (b .urb .structure))) ∙ ended-there transferOutRequest.Fails w (16 + wordAt w 12 + 4 + wordAt w (16 + wordAt w 12)) _ (data-ends w c d (q .cb) (q .long) (eight (b .urb .structure)) _ z))) ∙
+    rw allowed) in (
+      record {
+        back = record {
+          asks = ap asksSome asked;
+          message = message-back _ id m;
+          numbers = same (interface-back (wordAt w 0) i h b30) (rw (q .reads) (urb-same (b .urb .function) (b .urb .request .0) (b .urb .noack) _ _ (q .numbers)));
+          parts = same (ap (λ y. pieces.cut w (record { start = 16 + y + 4; size = wordAt w (16 + wordAt w 12) })) (q .cb) ∙ (ap (λ y. pieces.cut w (record { start = 16 + c + 4; size = y })) z ∙ q .output)) (rw (q .reads) (q .parts));
+        };
+        head = record { first = h; third = f };
+        long = long-of (length w) _ (q .long) (omega arith);
+      },
+      (record { request = b .urb .request; size = wordAt w (16 + wordAt w 12); noack = b .urb .noack; payload = record { start = 16 + wordAt w 12 + 4; size = wordAt w (16 + wordAt w 12) } }),
+      asked,
+      refl,
+    )

@@ -125,14 +125,15 @@ module _ (w s : List ℕ) (c : ℕ) (there : 16 + c ≤ length w) where
   isoch-back b k z e p q a g d r =
       let n : wordAt u 36 ≡ b .list .size / 12 = word-u 36 (omega arith) ∙ g in
       let o : 12 * wordAt u 36 ≡ b .list .size = ap (λ y. 12 * y) n ∙ twelves (b .list .size) k z in
-      record
-      { found = urb.IsochTransfer (record { pipe = wordAt u 24; flags = wordAt u 28; start = wordAt u 32; packets = wordAt u 36; errors = wordAt u 40; list = record { start = 44; size = 12 * wordAt u 36 } })
-      ; reads = atLeast-there read.Fails 24 (left u 16) 16 _ (rw left-16 (omega arith)) ∙ (agrees-there read.Fails (eqb (left u 16) (28 + 12 * wordAt u 36)) 16 _ (eq-eqb (left u 16) (28 + 12 * wordAt u 36) (left-16 ∙ (e ∙ ap (λ y. 28 + y) (sym o)))) ∙ ap (λ y. read.Fits (urb.IsochTransfer (record { pipe = wordAt u 24; flags = wordAt u 28; start = wordAt u 32; packets = wordAt u 36; errors = wordAt u 40; list = record { start = 44; size = 12 * wordAt u 36 } })) y) long)
-      ; allowed = ap (λ y. leb y 1024) n
-      ; only = refl
-      ; noack = refl
-      ; numbers = same (word-u 24 (omega arith) ∙ p) (same (word-u 28 (omega arith) ∙ q) (same (word-u 32 (omega arith) ∙ a) (same (word-u 40 (omega arith) ∙ d) refl)))
-      ; parts = same (ap (λ y. pieces.cut w (record { start = 44; size = y })) o ∙ r) refl }
+      record {
+        found = urb.IsochTransfer (record { pipe = wordAt u 24; flags = wordAt u 28; start = wordAt u 32; packets = wordAt u 36; errors = wordAt u 40; list = record { start = 44; size = 12 * wordAt u 36 } });
+        reads = atLeast-there read.Fails 24 (left u 16) 16 _ (rw left-16 (omega arith)) ∙ (agrees-there read.Fails (eqb (left u 16) (28 + 12 * wordAt u 36)) 16 _ (eq-eqb (left u 16) (28 + 12 * wordAt u 36) (left-16 ∙ (e ∙ ap (λ y. 28 + y) (sym o)))) ∙ ap (λ y. read.Fits (urb.IsochTransfer (record { pipe = wordAt u 24; flags = wordAt u 28; start = wordAt u 32; packets = wordAt u 36; errors = wordAt u 40; list = record { start = 44; size = 12 * wordAt u 36 } })) y) long);
+        allowed = ap (λ y. leb y 1024) n;
+        only = refl;
+        noack = refl;
+        numbers = same (word-u 24 (omega arith) ∙ p) (same (word-u 28 (omega arith) ∙ q) (same (word-u 32 (omega arith) ∙ a) (same (word-u 40 (omega arith) ∙ d) refl)));
+        parts = same (ap (λ y. pieces.cut w (record { start = 44; size = y })) o ∙ r) refl;
+      }
     where
       twelves : (y k : ℕ) → y ≡ 12 * k → 12 * (y / 12) ≡ y
       twelves y k e = omega arith
@@ -144,9 +145,9 @@ module _ (w s : List ℕ) (c : ℕ) (there : 16 + c ≤ length w) where
   walk-back p count at pipes e a r h =
       let q = fills (p .start + p .size) (interfacesOf (take (p .start + p .size) s) count 0 (p .start)) pipes e in
       let v = along (take (p .start + p .size) s) u count 0 (p .start) at (p .start + p .size) pipes q
-              (λ j x y ex ey k. let n = r j x y ex ey (omega (arith, ex, k)) in
-              (half-take w (16 + c) y (omega (arith, ex, ey, k, h)) ∙ (n .0 ∙ sym (half-take s (p .start + p .size) x (omega (arith, k)))), word-take w (16 + c) (y + 8) (omega (arith, ex, ey, k, h)) ∙ (n .1 ∙ sym (word-take s (p .start + p .size) (x + 8) (omega (arith, k))))))
-              (let l = long in let z : p .start + p .size - p .start ≡ p .size = omega arith in rw (z, l) h) in
+      (λ j x y ex ey k. let n = r j x y ex ey (omega (arith, ex, k)) in
+      (half-take w (16 + c) y (omega (arith, ex, ey, k, h)) ∙ (n .0 ∙ sym (half-take s (p .start + p .size) x (omega (arith, k)))), word-take w (16 + c) (y + 8) (omega (arith, ex, ey, k, h)) ∙ (n .1 ∙ sym (word-take s (p .start + p .size) (x + 8) (omega (arith, k))))))
+      (let l = long in let z : p .start + p .size - p .start ≡ p .size = omega arith in rw (z, l) h) in
       let d : p .size ≡ 12 * v .0 = omega (arith, v .1) in
       (subst (λ k. interfacesOf u count 0 at ≡ walk.End (at + k) pipes) (sym d) (v .2), v .0, d)
     where
@@ -172,14 +173,15 @@ module _ (w s : List ℕ) (c : ℕ) (there : 16 + c ≤ length w) where
       let q = walk-back (b .interface) 1 28 pipes l a r (omega arith) in
       let z : 28 + b .interface .size - 28 ≡ b .interface .size = omega arith in
       let o : 28 + b .interface .size ≡ 16 + c = omega arith in
-      record
-      { found = urb.SelectInterface (record { handle = wordAt u 24; interface = record { start = 28; size = 28 + b .interface .size - 28 }; pipes = pipes })
-      ; reads = field-there read.Fails u 24 4 _ (let n = long in omega arith) ∙ (ap (interfaceFrom u) (q .0) ∙ ap (λ y. read.Fits (urb.SelectInterface (record { handle = wordAt u 24; interface = record { start = 28; size = 28 + b .interface .size - 28 }; pipes = pipes })) y) o)
-      ; allowed = refl
-      ; only = refl
-      ; noack = refl
-      ; numbers = same (word-u 24 (omega arith) ∙ p) refl
-      ; parts = same (ap (λ y. pieces.interfacesOf w (y / 12) 0 28) z ∙ i) refl }
+      record {
+        found = urb.SelectInterface (record { handle = wordAt u 24; interface = record { start = 28; size = 28 + b .interface .size - 28 }; pipes = pipes });
+        reads = field-there read.Fails u 24 4 _ (let n = long in omega arith) ∙ (ap (interfaceFrom u) (q .0) ∙ ap (λ y. read.Fits (urb.SelectInterface (record { handle = wordAt u 24; interface = record { start = 28; size = 28 + b .interface .size - 28 }; pipes = pipes })) y) o);
+        allowed = refl;
+        only = refl;
+        noack = refl;
+        numbers = same (word-u 24 (omega arith) ∙ p) refl;
+        parts = same (ap (λ y. pieces.interfacesOf w (y / 12) 0 28) z ∙ i) refl;
+      }
 
   -- what a descriptor of so many bytes is read as, behind the list
   descriptor-back : (flag end size : ℕ) → end + size ≡ 16 + c → descriptorSized flag size ≡ true → (d : Descriptor) × (descriptorOf u flag end ≡ descriptor.Fits d (16 + c)) × (d .part ≡ record { start = end; size = size }) × (eqb flag 0 ≡ false → (d .first ≡ byteAt w end) × (d .second ≡ byteAt w (end + 1)))
@@ -193,11 +195,12 @@ module _ (w s : List ℕ) (c : ℕ) (there : 16 + c ≤ length w) where
           let z = eqb-true size 0 h in let o : end ≡ 16 + c = omega arith in
           (record { part = record { start = end; size = 0 }; first = 0; second = 0 }, ap (λ y. descriptor.Fits (record { part = record { start = end; size = 0 }; first = 0; second = 0 }) y) o, ap (λ y. record { start = end; size = y }) (sym z), λ f. refused (sym f))
       go false h =
-          let n = leb-true 9 size h in let o : left u end ≡ size = (let l = long in omega arith) in
-          (record { part = record { start = end; size = left u end }; first = byteAt u end; second = byteAt u (end + 1) },
-          field-there descriptor.Fails u end 9 _ (let l = long in omega arith) ∙ ap (λ y. descriptor.Fits (record { part = record { start = end; size = left u end }; first = byteAt u end; second = byteAt u (end + 1) }) y) long,
-          ap (λ y. record { start = end; size = y }) o,
-          λ f. (getD-take (16 + c) w end 0 (omega arith), getD-take (16 + c) w (end + 1) 0 (omega arith)))
+          let n = leb-true 9 size h in let o : left u end ≡ size = (let l = long in omega arith) in (
+            record { part = record { start = end; size = left u end }; first = byteAt u end; second = byteAt u (end + 1) },
+            field-there descriptor.Fails u end 9 _ (let l = long in omega arith) ∙ ap (λ y. descriptor.Fits (record { part = record { start = end; size = left u end }; first = byteAt u end; second = byteAt u (end + 1) }) y) long,
+            ap (λ y. record { start = end; size = y }) o,
+            λ f. (getD-take (16 + c) w end 0 (omega arith), getD-take (16 + c) w (end + 1) 0 (omega arith)),
+          )
 
   or-same : (a a' b c' : Bool) (f f' x y x' y' : ℕ) → a ≡ a' → f ≡ f' → (eqb f' 0 ≡ false → (x ≡ x') × (y ≡ y')) → (a && (b && (eqb f 0 || (eqb x 9 && eqb y 2)))) ≡ (a' && (b && (eqb f' 0 || (eqb x' 9 && eqb y' 2))))
   or-same a a' b c' f f' x y x' y' e g h = rw (e, g) (go (eqb f' 0) refl)
@@ -221,20 +224,23 @@ module _ (w s : List ℕ) (c : ℕ) (there : 16 + c ≤ length w) where
       let y : b .interfaces .size / 12 * 12 ≡ b .interfaces .size = rows (b .interfaces .size) (q .1) (q .2) in
       let d = descriptor-back (byteAt u 24) (32 + b .interfaces .size) (b .descriptor .size) (omega arith) (subst (λ y. descriptorSized y (b .descriptor .size) ≡ true) (sym fu) h) in
       let kd : pieces.cut w (record { start = 32 + b .interfaces .size; size = b .descriptor .size }) ≡ pieces.cut s (b .descriptor) = ap (λ y. pieces.cut w (record { start = 32 + y; size = b .descriptor .size })) (sym y) ∙ k in
-      record
-      { found = urb.SelectConfiguration (record { flag = byteAt u 24; count = wordAt u 28; interfaces = record { start = 32; size = 32 + b .interfaces .size - 32 }; pipes = pipes; descriptor = d .0 })
-      ; reads = field-there read.Fails u 24 1 _ (let m = long in omega arith) ∙ (field-there read.Fails u 25 3 _ (let m = long in omega arith) ∙ (field-there read.Fails u 28 4 _ (let m = long in omega arith) ∙ (ap (configurationFrom u) v ∙ ap (configurationWith u (wordAt u 28) (32 + b .interfaces .size) pipes) (d .1))))
-      ; allowed = or-same _ _ (leb pipes 30) true (byteAt u 24) (b .flag) (d .0 .first) (d .0 .second) _ _ (ap (λ y. leb y 32) cu) fu (λ f. let g = d .3 (subst (λ y. eqb y 0 ≡ false) (sym fu) f) in let m = nine (b .flag) (b .descriptor .size) f h in
-          (g .0 ∙ start-byte (32 + b .interfaces .size) (b .descriptor) kd (omega arith), g .1 ∙ (byte-in w s (record { start = 32 + b .interfaces .size; size = b .descriptor .size }) (b .descriptor) 1 refl kd (omega arith) ∙ sym (getD-drop (b .descriptor .start) s 1 0))))
-      ; only = refl
-      ; noack = refl
-      ; numbers = same fu (same cu refl)
-      ; parts = same (ap (λ y. pieces.interfacesOf w (y / 12) 0 32) z ∙ i) (same (ap (pieces.cut w) (d .2) ∙ kd) refl) }
+      record {
+        found = urb.SelectConfiguration (record { flag = byteAt u 24; count = wordAt u 28; interfaces = record { start = 32; size = 32 + b .interfaces .size - 32 }; pipes = pipes; descriptor = d .0 });
+        reads = field-there read.Fails u 24 1 _ (let m = long in omega arith) ∙ (field-there read.Fails u 25 3 _ (let m = long in omega arith) ∙ (field-there read.Fails u 28 4 _ (let m = long in omega arith) ∙ (ap (configurationFrom u) v ∙ ap (configurationWith u (wordAt u 28) (32 + b .interfaces .size) pipes) (d .1))));
+        allowed = or-same _ _ (leb pipes 30) true (byteAt u 24) (b .flag) (d .0 .first) (d .0 .second) _ _ (ap (λ y. leb y 32) cu) fu (λ f. let g = d .3 (subst (λ y. eqb y 0 ≡ false) (sym fu) f) in let m = nine (b .flag) (b .descriptor .size) f h in
+            (g .0 ∙ start-byte (32 + b .interfaces .size) (b .descriptor) kd (omega arith), g .1 ∙ (byte-in w s (record { start = 32 + b .interfaces .size; size = b .descriptor .size }) (b .descriptor) 1 refl kd (omega arith) ∙ sym (getD-drop (b .descriptor .start) s 1 0))));
+        only = refl;
+        noack = refl;
+        numbers = same fu (same cu refl);
+        parts = same (ap (λ y. pieces.interfacesOf w (y / 12) 0 32) z ∙ i) (same (ap (pieces.cut w) (d .2) ∙ kd) refl);
+      }
     where
       rows : (y r : ℕ) → y ≡ 12 * r → y / 12 * 12 ≡ y
       rows y r e = omega arith
+
       nine : (flag size : ℕ) → eqb flag 0 ≡ false → descriptorSized flag size ≡ true → 9 ≤ size
       nine flag size f h = leb-true 9 size (subst (λ t. cond t (eqb size 0) (leb 9 size) ≡ true) f h)
+
       start-byte : (at : ℕ) (q : Part) → pieces.cut w (record { start = at; size = q .size }) ≡ pieces.cut s q → 9 ≤ q .size → byteAt w at ≡ byteAt (drop (q .start) s) 0
       start-byte at q e h = let z : at ≡ at + 0 = omega arith in ap (λ y. byteAt w y) z ∙ (byte-in w s (record { start = at; size = q .size }) q 0 refl e (omega arith) ∙ sym (getD-drop (q .start) s 0 0))
 
@@ -296,5 +302,6 @@ module _ (w s : List ℕ) (c : ℕ) (there : 16 + c ≤ length w) where
     where
       twelve : (y : ℕ) → y % 12 ≡ 0 → y ≡ 12 * (y / 12)
       twelve y e = omega arith
+
       small : (q : Part) → partAllowed s q ≡ true → q .size / 12 < 4294967296
       small q e = let h = lies s q e .1 in omega arith

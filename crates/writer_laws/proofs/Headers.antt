@@ -73,6 +73,7 @@ module _ (m : List ℕ) (side : ℕ) where
     where
       ap-first : (a b : ℕ) → a ≡ b → a + 0x4000_0000 * 1 ≡ b + 0x4000_0000 * 1
       ap-first a b e = rw e
+
       below : (w : ℕ) → w % 0x4000_0000 < 0x4000_0000
       below w = omega arith
 

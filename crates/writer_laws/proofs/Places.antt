@@ -65,10 +65,11 @@ two-below a b ha hb = omega arith
 
 -- three words in a row
 three : (pre : List ℕ) (x y z : ℕ) (rest w : List ℕ) (at : ℕ) → w ≡ pre ++ ((wordBytes x ++ (wordBytes y ++ wordBytes z)) ++ rest) → at ≡ length pre → x < 4294967296 → y < 4294967296 → z < 4294967296 → WordStands w at x × WordStands w (at + 4) y × WordStands w (at + 8) z
-three pre x y z rest w at e l hx hy hz =
-    (word-behind pre x (wordBytes y ++ (wordBytes z ++ rest)) w at e l hx,
-    word-behind (pre ++ wordBytes x) y (wordBytes z ++ rest) w (at + 4) (e ∙ sym (append-assoc pre (wordBytes x) (wordBytes y ++ (wordBytes z ++ rest)))) (rw (length-append, l)) hy,
-    word-behind (pre ++ (wordBytes x ++ wordBytes y)) z rest w (at + 8) (e ∙ sym (append-assoc pre (wordBytes x ++ wordBytes y) (wordBytes z ++ rest))) (rw (length-append, l)) hz)
+three pre x y z rest w at e l hx hy hz = (
+  word-behind pre x (wordBytes y ++ (wordBytes z ++ rest)) w at e l hx,
+  word-behind (pre ++ wordBytes x) y (wordBytes z ++ rest) w (at + 4) (e ∙ sym (append-assoc pre (wordBytes x) (wordBytes y ++ (wordBytes z ++ rest)))) (rw (length-append, l)) hy,
+  word-behind (pre ++ (wordBytes x ++ wordBytes y)) z rest w (at + 8) (e ∙ sym (append-assoc pre (wordBytes x ++ wordBytes y) (wordBytes z ++ rest))) (rw (length-append, l)) hz,
+)
 
 module _ (s : List ℕ) (bytes : Bytes s) where
   pub word-below : (x : ℕ) → wordAt s x < 4294967296
@@ -92,10 +93,13 @@ module _ (s : List ℕ) (bytes : Bytes s) where
     where
       r : Row
       r = rowOf s a pipes
+
       more : List ℕ
       more = interfacesOf s n (r .pipes) (a + 12)
+
       grouped : pre ++ ((rowBytes r ++ more) ++ rest) ≡ (pre ++ rowBytes r) ++ (more ++ rest)
       grouped = ap (λ z. pre ++ z) (append-assoc (rowBytes r) more rest) ∙ sym (append-assoc pre (rowBytes r) (more ++ rest))
+
       rows : RowsStand w s (at + 12) (a + 12) n → RowsStand w s at a (suc n)
       rows i zero x y ex ey h =
           let xa : x ≡ a = omega arith in let ya : y ≡ at = omega arith in

@@ -86,6 +86,7 @@ head-read w i mask function h e =
   where
     low : (w i m : ℕ) → w ≡ i + 0x4000_0000 * m → i < 0x4000_0000 → w % 0x4000_0000 ≡ i
     low w i m e h = omega arith
+
     high : (w i m : ℕ) → w ≡ i + 0x4000_0000 * m → i < 0x4000_0000 → w / 0x4000_0000 ≡ m
     high w i m e h = omega arith
 
@@ -102,12 +103,16 @@ wrong-side h side (known.Is id) by mask function e = rw e (none (eqb (h .interfa
 module _ (i : ℕ) (id : MessageId) (four : 4 ≤ i) where
   n0 : eqb i 0 ≡ false
   n0 = ne-eqb i 0 (omega arith)
+
   n1 : eqb i 1 ≡ false
   n1 = ne-eqb i 1 (omega arith)
+
   n2 : eqb i 2 ≡ false
   n2 = ne-eqb i 2 (omega arith)
+
   n3 : eqb i 3 ≡ false
   n3 = ne-eqb i 3 (omega arith)
+
   ii : eqb i i ≡ true
   ii = eq-eqb i i refl
 

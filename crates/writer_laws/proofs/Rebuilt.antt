@@ -214,4 +214,3 @@ module _ (m : List ℕ) (long : 12 ≤ length m) (fits : length m ≤ 65535) whe
       ended-by urbCompletionNoData.Fails (λ r. Asks kind.UrbCompletionNoData (asksBy (urbCompletionNoDataReading r))) (λ f. refused) m (20 + wordAt m 16 + 8) _ λ z.
       λ e. let p : 20 + wordAt m 16 + 4 + 4 ≡ 20 + wordAt m 16 + 8 = omega arith in let w : 20 + wordAt m 16 + 8 ≤ length m = subst (λ k. k ≤ length m) p (reaches (20 + wordAt m 16 + 4) (length m) l) in
       record { given = both known (part-in m _ (behind-result (wordAt m 16) (length m) c d) fits); pieces = head-cut i 1 0x102 m _ hd ∙ ap (λ r. Word (wordAt m 0) ∷ Word (wordAt m 4) ∷ Word (wordAt m 8) ∷ r) (completion-cut m (wordAt m 16) c g (λ k. Run emptyPart ∷ [])); spans = result-spans (wordAt m 16) 0 (length m) c (subst (λ k. k ≤ length m) (sym (add-zero (20 + wordAt m 16 + 8))) w) (subst (λ k. length m ≤ k) (sym (add-zero (20 + wordAt m 16 + 8))) z) }
-

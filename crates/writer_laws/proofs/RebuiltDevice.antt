@@ -153,15 +153,16 @@ module _ (m : List ℕ) (fits : length m ≤ 65535) where
       let e4 = split b3 b4 (e3 .1) in
       let names = split (textAllowed (textAt m 20)) (listAllowed (textAt m (second 20))) (e3 .0) in
       let classes = split (textAllowed (textAt m (second third))) (listAllowed (textAt m third)) (e4 .0) in
-      record
-      { given = both (e1 .0) (both (e2 .0) (both (fits-by m 20 textAllowed a fits (names .0)) (both (fits-by m (second 20) listAllowed b fits (names .1)) (both (fits-by m third listAllowed c fits (classes .1)) (both (fits-by m (second third) textAllowed d fits (classes .0)) (e4 .1))))))
-      ; pieces = head-cut 1 1 0x101 m _ hd ∙ ap (λ r. Word (wordAt m 0) ∷ Word (wordAt m 4) ∷ Word (wordAt m 8) ∷ Word (wordAt m 12) ∷ Word (wordAt m 16) ∷ r)
-        (counted m 20 _ ∙ ap (λ r. Word (wordAt m 20) ∷ Run (record { start = 24; size = 2 * wordAt m 20 }) ∷ r)
-        (counted m (second 20) _ ∙ ap (λ r. Word (wordAt m (second 20)) ∷ Run (record { start = second 20 + 4; size = 2 * wordAt m (second 20) }) ∷ r)
-        (counted m third _ ∙ ap (λ r. Word (wordAt m third) ∷ Run (record { start = third + 4; size = 2 * wordAt m third }) ∷ r)
-        (counted m (second third) _ ∙ ap (λ r. Word (wordAt m (second third)) ∷ Run (record { start = second third + 4; size = 2 * wordAt m (second third) }) ∷ r)
-        (seven-cut m last)))))
-      ; spans = device-spans (2 * wordAt m 20) (2 * wordAt m (second 20)) (2 * wordAt m third) (2 * wordAt m (second third)) (length m) (sym l) }
+      record {
+        given = both (e1 .0) (both (e2 .0) (both (fits-by m 20 textAllowed a fits (names .0)) (both (fits-by m (second 20) listAllowed b fits (names .1)) (both (fits-by m third listAllowed c fits (classes .1)) (both (fits-by m (second third) textAllowed d fits (classes .0)) (e4 .1))))));
+        pieces = head-cut 1 1 0x101 m _ hd ∙ ap (λ r. Word (wordAt m 0) ∷ Word (wordAt m 4) ∷ Word (wordAt m 8) ∷ Word (wordAt m 12) ∷ Word (wordAt m 16) ∷ r)
+            (counted m 20 _ ∙ ap (λ r. Word (wordAt m 20) ∷ Run (record { start = 24; size = 2 * wordAt m 20 }) ∷ r)
+            (counted m (second 20) _ ∙ ap (λ r. Word (wordAt m (second 20)) ∷ Run (record { start = second 20 + 4; size = 2 * wordAt m (second 20) }) ∷ r)
+            (counted m third _ ∙ ap (λ r. Word (wordAt m third) ∷ Run (record { start = third + 4; size = 2 * wordAt m third }) ∷ r)
+            (counted m (second third) _ ∙ ap (λ r. Word (wordAt m (second third)) ∷ Run (record { start = second third + 4; size = 2 * wordAt m (second third) }) ∷ r)
+            (seven-cut m last)))));
+        spans = device-spans (2 * wordAt m 20) (2 * wordAt m (second 20)) (2 * wordAt m third) (2 * wordAt m (second third)) (length m) (sym l);
+      }
 
   pub device-rebuilt : Headed 1 1 0x101 m → Asks m (asksBy (addDeviceReading (addDeviceOf m)))
   unfolding addDeviceOf deviceOf capabilitiesOf

@@ -126,10 +126,11 @@ module _ (m : List ℕ) (fits : length m ≤ 65535) (bytes : Bytes m) where
   in-found hd known there h g b end e q l a =
       let a1 = split (not (noAckIn (wordAt u 20))) (urbAllowed b && cond (onlyIn b) (eqb (wordAt m (16 + n)) 0) true) a in
       let a2 = split (urbAllowed b) (cond (onlyIn b) (eqb (wordAt m (16 + n)) 0) true) (a1 .1) in
-      record
-      { given = rw (e, q .stated) (both known (both (request-small (wordAt u 20)) (both (a1 .0) (both (q .allowed) (rw (q .only) (a2 .1))))))
-      ; pieces = rw e (head-cut i 1 0x105 m _ hd ∙ ap (λ r. Word (wordAt m 0) ∷ Word (wordAt m 4) ∷ Word (wordAt m 8) ∷ r) (first-words (structureSize (structureIn b)) h g (q .size) _ _ (last-words there b q empty)))
-      ; spans = rw e (all-spans there b q empty (omega arith)) }
+      record {
+        given = rw (e, q .stated) (both known (both (request-small (wordAt u 20)) (both (a1 .0) (both (q .allowed) (rw (q .only) (a2 .1))))));
+        pieces = rw e (head-cut i 1 0x105 m _ hd ∙ ap (λ r. Word (wordAt m 0) ∷ Word (wordAt m 4) ∷ Word (wordAt m 8) ∷ r) (first-words (structureSize (structureIn b)) h g (q .size) _ _ (last-words there b q empty)));
+        spans = rw e (all-spans there b q empty (omega arith));
+      }
 
   abbrev pub Read : (16 + n ≤ length m) → TsUrbRead → Type 0
   Read there (ts.Fits t end) = (b : Urb) × (t ≡ withStructure b) × (halfAt u 16 ≡ n) × (16 + n ≤ end → urbAllowed b ≡ true → BuiltAs m fits n there bytes (halfAt u 18) b)
@@ -156,6 +157,7 @@ module _ (m : List ℕ) (fits : length m ≤ 65535) (bytes : Bytes m) where
     where
       exactly : (at l : ℕ) → 4 ≤ l - at → l ≤ at + 4 → l ≡ at + 4
       exactly at l p s = omega arith
+
       urb-of : (b : Urb) (size : ℕ) → transferInRequestAllowed (record { urb = withStructure b; size = size }) ≡ true → urbAllowed b ≡ true
       urb-of b size k = split (urbAllowed b) (cond (onlyIn b) (eqb size 0) true) (split (not (noAckIn (wordAt u 20))) (urbAllowed b && cond (onlyIn b) (eqb size 0) true) k .1) .0
   in-from hd known there h (ts.Fails fault) e q = refused
@@ -184,10 +186,11 @@ module _ (m : List ℕ) (fits : length m ≤ 65535) (bytes : Bytes m) where
   out-found hd known there h g b end e q l z a =
       let a1 = split (urbAllowed b) (not (onlyIn b) && cond (noAckIn (wordAt u 20)) (mayNoAck b) true) a in
       let a2 = split (not (onlyIn b)) (cond (noAckIn (wordAt u 20)) (mayNoAck b) true) (a1 .1) in
-      record
-      { given = rw (e, q .stated) (both known (both (request-small (wordAt u 20)) (both (part-in m output l fits) (both (q .allowed) (both (ap not (q .only) ∙ a2 .0) (rw (q .noack) (a2 .1)))))))
-      ; pieces = rw e (head-cut i 1 0x106 m _ hd ∙ ap (λ r. Word (wordAt m 0) ∷ Word (wordAt m 4) ∷ Word (wordAt m 8) ∷ r) (first-words (structureSize (structureIn b)) h g (q .size) _ _ (last-words there b q (run size))))
-      ; spans = rw e (all-spans there b q (run size) (equal (16 + n + 4 + size) (length m) l z)) }
+      record {
+        given = rw (e, q .stated) (both known (both (request-small (wordAt u 20)) (both (part-in m output l fits) (both (q .allowed) (both (ap not (q .only) ∙ a2 .0) (rw (q .noack) (a2 .1)))))));
+        pieces = rw e (head-cut i 1 0x106 m _ hd ∙ ap (λ r. Word (wordAt m 0) ∷ Word (wordAt m 4) ∷ Word (wordAt m 8) ∷ r) (first-words (structureSize (structureIn b)) h g (q .size) _ _ (last-words there b q (run size))));
+        spans = rw e (all-spans there b q (run size) (equal (16 + n + 4 + size) (length m) l z));
+      }
     where
       equal : (a b : ℕ) → a ≤ b → b ≤ a → a ≡ b
       equal a b p s = omega arith

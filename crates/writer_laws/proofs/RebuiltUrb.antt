@@ -116,15 +116,16 @@ module _ (m : List ℕ) (fits : length m ≤ 65535) (n : ℕ) (there : 16 + n �
   unfolding statedOf isochStated cutsFrom spansOf
   isoch-found k s w a f e =
       let l : n ≡ 28 + 12 * k = sized (28 + 12 * k) s in
-      record
-      { found = urb.IsochTransfer (record { pipe = wordAt u 24; flags = wordAt u 28; start = wordAt u 32; packets = 12 * k / 12; errors = wordAt u 40; list = record { start = 44; size = 12 * k } })
-      ; stated = rw (e, part-in m (record { start = 44; size = 12 * k }) (omega arith) fits, eq-eqb (12 * k % 12) 0 (none-left k))
-      ; allowed = rw (twelve k) a
-      ; only = refl
-      ; noack = refl
-      ; size = omega arith
-      ; pieces = rw (twelve k, ← (word-u 24 (omega arith)), ← (word-u 28 (omega arith)), ← (word-u 32 (omega arith)), ← (word-u 36 (omega arith)), ← (word-u 40 (omega arith)), w)
-      ; spans = omega arith }
+      record {
+        found = urb.IsochTransfer (record { pipe = wordAt u 24; flags = wordAt u 28; start = wordAt u 32; packets = 12 * k / 12; errors = wordAt u 40; list = record { start = 44; size = 12 * k } });
+        stated = rw (e, part-in m (record { start = 44; size = 12 * k }) (omega arith) fits, eq-eqb (12 * k % 12) 0 (none-left k));
+        allowed = rw (twelve k) a;
+        only = refl;
+        noack = refl;
+        size = omega arith;
+        pieces = rw (twelve k, ← (word-u 24 (omega arith)), ← (word-u 28 (omega arith)), ← (word-u 32 (omega arith)), ← (word-u 36 (omega arith)), ← (word-u 40 (omega arith)), w);
+        spans = omega arith;
+      }
 
   isoch-built : (f : ℕ) → eqb f 10 ≡ true → Built f (isochTransferOf u)
   unfolding isochTransferOf
@@ -139,7 +140,7 @@ module _ (m : List ℕ) (fits : length m ≤ 65535) (n : ℕ) (there : 16 + n �
       let q : at + (e - at) ≡ e = omega arith in
       let t : length (take e m) ≡ e = length-take-le e m (omega arith) in
       let w = along u (take e m) c 0 at at e p h (λ j x y ex ey k. let z : x ≡ y = omega arith in
-              (rw z (half-take m e y (omega arith) ∙ sym (half-take m (16 + n) y (omega arith))), rw z (word-take m e (y + 8) (omega arith) ∙ sym (word-take m (16 + n) (y + 8) (omega arith))))) (omega arith) in
+      (rw z (half-take m e y (omega arith) ∙ sym (half-take m (16 + n) y (omega arith))), rw z (word-take m e (y + 8) (omega arith) ∙ sym (word-take m (16 + n) (y + 8) (omega arith))))) (omega arith) in
       (rw (q, w .2, eq-eqb (at + 12 * w .0) e (sym (w .1))), w .0, w .1)
 
   interface-found : (f end pipes : ℕ) → eqb f 1 ≡ true → interfacesOf u 1 0 28 ≡ walk.End end pipes → 28 ≤ end → end ≡ 16 + n → leb pipes 30 ≡ true
@@ -148,15 +149,16 @@ module _ (m : List ℕ) (fits : length m ≤ 65535) (n : ℕ) (there : 16 + n �
   interface-found f end pipes e w a l p =
       let q = list-fills 1 28 end pipes w a (omega arith) in
       let r = rows-size (end - 28) (q .1) (back 28 end (q .1) (q .2)) in
-      record
-      { found = urb.SelectInterface (record { handle = wordAt u 24; interface = record { start = 28; size = end - 28 }; pipes = pipes })
-      ; stated = rw (e, part-in m (record { start = 28; size = end - 28 }) (omega arith) fits, q .0)
-      ; allowed = p
-      ; only = refl
-      ; noack = refl
-      ; size = omega arith
-      ; pieces = rw (r, word-u 24 (omega arith))
-      ; spans = rw r (omega arith) }
+      record {
+        found = urb.SelectInterface (record { handle = wordAt u 24; interface = record { start = 28; size = end - 28 }; pipes = pipes });
+        stated = rw (e, part-in m (record { start = 28; size = end - 28 }) (omega arith) fits, q .0);
+        allowed = p;
+        only = refl;
+        noack = refl;
+        size = omega arith;
+        pieces = rw (r, word-u 24 (omega arith));
+        spans = rw r (omega arith);
+      }
 
   interface-from : (f : ℕ) → eqb f 1 ≡ true → (w : Walk) → 28 ≤ length u → interfacesOf u 1 0 28 ≡ w → Built f (interfaceFrom u w)
   interface-from f e (walk.End end pipes) l w =
@@ -188,15 +190,16 @@ module _ (m : List ℕ) (fits : length m ≤ 65535) (n : ℕ) (there : 16 + n �
       let r = rows-size (end - 32) (q .1) (back 32 end (q .1) (q .2)) in
       let b : byteAt u 24 ≤ 255 = rw (byte-u 24 (omega arith)) (below (byteAt m 24) (bytes 24)) in
       let g : 32 + (end - 32) ≡ end = omega arith in
-      record
-      { found = urb.SelectConfiguration (record { flag = byteAt u 24; count = wordAt u 28; interfaces = record { start = 32; size = end - 32 }; pipes = pipes; descriptor = record { part = record { start = end; size = 16 + n - end }; first = byteAt (drop end m) 0; second = byteAt (drop end m) 1 } })
-      ; stated = rw (e, pd, le-ltb 255 (byteAt u 24) b, part-in m (record { start = 32; size = end - 32 }) (omega arith) fits, part-in m (record { start = end; size = 16 + n - end }) (omega arith) fits, sd, q .0)
-      ; allowed = al
-      ; only = refl
-      ; noack = refl
-      ; size = rw pd (omega arith)
-      ; pieces = rw (pd, r, g, byte-u 24 (omega arith), word-u 28 (omega arith))
-      ; spans = rw (pd, r) (omega arith) }
+      record {
+        found = urb.SelectConfiguration (record { flag = byteAt u 24; count = wordAt u 28; interfaces = record { start = 32; size = end - 32 }; pipes = pipes; descriptor = record { part = record { start = end; size = 16 + n - end }; first = byteAt (drop end m) 0; second = byteAt (drop end m) 1 } });
+        stated = rw (e, pd, le-ltb 255 (byteAt u 24) b, part-in m (record { start = 32; size = end - 32 }) (omega arith) fits, part-in m (record { start = end; size = 16 + n - end }) (omega arith) fits, sd, q .0);
+        allowed = al;
+        only = refl;
+        noack = refl;
+        size = rw pd (omega arith);
+        pieces = rw (pd, r, g, byte-u 24 (omega arith), word-u 28 (omega arith));
+        spans = rw (pd, r) (omega arith);
+      }
     where
       below : (x : ℕ) → x < 256 → x ≤ 255
       below x h = omega arith
@@ -210,10 +213,10 @@ module _ (m : List ℕ) (fits : length m ≤ 65535) (n : ℕ) (there : 16 + n �
   configuration-with f end pipes e w a l =
       either P (eqb (byteAt u 24) 0) _ _
       (λ t. λ h al. let z : 16 + n - end ≡ 0 = omega arith in
-          configuration-found f end pipes (record { part = record { start = end; size = 0 }; first = 0; second = 0 }) e w a l (rw z) (rw (t, z)) (and-or (leb (wordAt u 28) 32) (leb pipes 30) (eqb (byteAt u 24) 0) 0 0 (byteAt (drop end m) 0) (byteAt (drop end m) 1) (λ x. refused (sym x ∙ t)) al))
+      configuration-found f end pipes (record { part = record { start = end; size = 0 }; first = 0; second = 0 }) e w a l (rw z) (rw (t, z)) (and-or (leb (wordAt u 28) 32) (leb pipes 30) (eqb (byteAt u 24) 0) 0 0 (byteAt (drop end m) 0) (byteAt (drop end m) 1) (λ x. refused (sym x ∙ t)) al))
       (λ t. field-by descriptor.Fails P (λ x. tt) u end 9 _ λ k. λ h al.
-          let z : left u end ≡ 16 + n - end = omega (arith, long) in
-          configuration-found f end pipes (record { part = record { start = end; size = left u end }; first = byteAt u end; second = byteAt u (end + 1) }) e w a l (rw z) (rw t (le-leb 9 (16 + n - end) (omega (arith, z, k)))) (and-or (leb (wordAt u 28) 32) (leb pipes 30) (eqb (byteAt u 24) 0) (byteAt u end) (byteAt u (end + 1)) (byteAt (drop end m) 0) (byteAt (drop end m) 1) (λ x. (sym (first-byte end (omega (arith, z, k))), sym (second-byte end (omega (arith, z, k))))) al))
+      let z : left u end ≡ 16 + n - end = omega (arith, long) in
+      configuration-found f end pipes (record { part = record { start = end; size = left u end }; first = byteAt u end; second = byteAt u (end + 1) }) e w a l (rw z) (rw t (le-leb 9 (16 + n - end) (omega (arith, z, k)))) (and-or (leb (wordAt u 28) 32) (leb pipes 30) (eqb (byteAt u 24) 0) (byteAt u end) (byteAt u (end + 1)) (byteAt (drop end m) 0) (byteAt (drop end m) 1) (λ x. (sym (first-byte end (omega (arith, z, k))), sym (second-byte end (omega (arith, z, k))))) al))
     where
       P : DescriptorRead → Type 0
       P r = Built f (configurationWith u (wordAt u 28) end pipes r)

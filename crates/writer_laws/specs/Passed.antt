@@ -23,8 +23,11 @@ use Rattle.writer_laws.specs.Layout.{clearedFrom}
 use Rattle.writer_laws.specs.Rebuilt.{layoutOf}
 
 -- a call passes checks 3 to 8: it is accepted, or refused for what a row or the rows of its channel say
+abbrev pub Passing : ℕ → Type 0
+Passing n = (n ≡ 0) ⊎ (9 ≤ n)
+
 abbrev pub Passes : Answer → Type 0
-Passes a = (answerNumber a ≡ 0) ⊎ (9 ≤ answerNumber a)
+Passes a = Passing (answerNumber a)
 
 -- the header of a message
 abbrev pub headIn : List ℕ → Header
