@@ -137,3 +137,23 @@ all-fit m at [] l h = ap total.Fits (omega arith)
 all-fit m at (f ∷ fs) l h =
     let q = field-lies m at f (omega arith) in
     rw (q .0, q .1, le-ltb (65535 - at) (spanOf f) (omega arith)) (all-fit m (at + spanOf f) fs l (omega arith))
+
+-- a layout with no padding in it
+abbrev pub Kept : List Field → Type 0
+Kept [] = Unit {0}
+Kept (none ∷ fs) = Kept fs
+Kept (empty ∷ fs) = Kept fs
+Kept (word ∷ fs) = Kept fs
+Kept (half ∷ fs) = ⊥
+Kept (byte ∷ fs) = ⊥
+Kept (run n ∷ fs) = Kept fs
+Kept (interfaces n ∷ fs) = ⊥
+
+-- cuts out all of its bytes
+pub all-kept : (m : List ℕ) (at : ℕ) (fs : List Field) → Kept fs → clearedFrom m at fs ≡ bytesFrom m at (spansOf fs)
+unfolding clearedFrom spansOf
+all-kept m at [] k = refl
+all-kept m at (none ∷ fs) k = let z : at + 0 ≡ at = omega arith in let y : 0 + spansOf fs ≡ spansOf fs = omega arith in rw (z, y) (all-kept m at fs k)
+all-kept m at (empty ∷ fs) k = let z : at + 0 ≡ at = omega arith in let y : 0 + spansOf fs ≡ spansOf fs = omega arith in rw (z, y) (all-kept m at fs k)
+all-kept m at (word ∷ fs) k = ap (λ r. bytesFrom m at 4 ++ r) (all-kept m (at + 4) fs k) ∙ joined m at 4 (spansOf fs)
+all-kept m at (run n ∷ fs) k = ap (λ r. bytesFrom m at n ++ r) (all-kept m (at + n) fs k) ∙ joined m at n (spansOf fs)

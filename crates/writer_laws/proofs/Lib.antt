@@ -13,3 +13,4 @@ pub mod BackUrb
 pub mod BackTransfer
 pub mod Taken
 pub mod ReadBack
+pub mod Numbers

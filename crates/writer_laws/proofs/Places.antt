@@ -38,7 +38,7 @@ upper-back : (n : ℕ) → n < 4294967296 → n / 65536 % 256 + 256 * (n / 16777
 upper-back n h = let e = div-div-eq-div-mul n 65536 256 in rw (← e) (omega arith)
 
 -- a word that stands behind so many bytes
-word-behind : (pre : List ℕ) (n : ℕ) (rest : List ℕ) (w : List ℕ) (at : ℕ) → w ≡ pre ++ (wordBytes n ++ rest) → at ≡ length pre → n < 4294967296 → WordStands w at n
+pub word-behind : (pre : List ℕ) (n : ℕ) (rest : List ℕ) (w : List ℕ) (at : ℕ) → w ≡ pre ++ (wordBytes n ++ rest) → at ≡ length pre → n < 4294967296 → WordStands w at n
 word-behind pre n rest w at e l h =
     let b0 : byteAt w at ≡ n % 256 = rw (e, l) (subst (λ k. getD (pre ++ (wordBytes n ++ rest)) k 0 ≡ n % 256) (omega arith) (getD-append-add pre (wordBytes n ++ rest) 0 0)) in
     let b1 : byteAt w (at + 1) ≡ n / 256 % 256 = rw (e, l) (getD-append-add pre (wordBytes n ++ rest) 1 0) in

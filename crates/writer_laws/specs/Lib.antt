@@ -3,3 +3,4 @@ pub mod Layout
 pub mod Rebuilt
 pub mod Passed
 pub mod ReadBack
+pub mod Numbers
