@@ -73,6 +73,8 @@ use Rattle.writer.specs.SharedMsgHeader.{interfaceAllowed}
 use Rattle.writer.specs.Part.{partAllowed}
 use Rattle.writer.specs.Message.{bytesOf, givenIn, piecesOf}
 use Rattle.writer.specs.RegisterRequestCallback.{completionAllowed}
+use Rattle.writer.specs.ChannelCreated.{channelCreatedPieces}
+use Rattle.writer.specs.IoControl.{ioControlPieces}
 use Rattle.writer.specs.UrbCompletion.{resultGiven, urbCompletionGiven}
 use Rattle.writer.proofs.Lies.{lies}
 use Rattle.writer.specs.declared.register_request_callback.RegisterRequestCallbackFields.{RegisterRequestCallbackFields}
@@ -87,6 +89,7 @@ use Rattle.writer.specs.declared.message.Fields.the-variants as fields
 use Rattle.fields.specs.Message.{fieldsIn}
 use Rattle.fields.specs.UrbCompletion.{noDataIn, urbCompletionIn}
 use Rattle.writer_laws.specs.Layout.{Bytes}
+use Rattle.writer_laws.specs.Places.{Places}
 use Rattle.writer_laws.specs.Rebuilt.{asksSome}
 use Rattle.writer_laws.specs.ReadBack.{ReadBack, Wide32, kindOf, numbersOf, partsOf}
 use Rattle.writer_laws.proofs.Places.{fits-length, places}
@@ -177,51 +180,33 @@ capability-response-back id b s bytes n t given wide =
       long = omega (arith, l);
     }
 
+-- kinds 3 and 4 differ in their interface
+created-at : (w s : List ℕ) (id : MessageId) (i : ℕ) (b : ChannelCreated) → i + 0x4000_0000 * 1 < 4294967296 → Places w s 0 (channelCreatedPieces id i b) → channelCreatedAllowed b ≡ true → id .0 < 4294967296 → b .major < 4294967296 → b .minor < 4294967296 → b .capabilities < 4294967296
+    → (asksSome (asksBy (channelCreatedReading (channelCreatedOf w))) ≡ true) × (messageIn (wordAt w 4) ≡ id) × (wordAt w 12 ∷ wordAt w 16 ∷ wordAt w 20 ∷ [] ≡ b .major ∷ b .minor ∷ b .capabilities ∷ []) × Headed i 1 0x100 w × (12 ≤ length w)
+unfolding channelCreatedOf
+created-at w s id i b small p given w0 w1 w2 w3 =
+    let e3 = p .1 .1 .1 .0 w1 .0 in
+    let e4 = p .1 .1 .1 .1 .0 w2 .0 in
+    let e5 = p .1 .1 .1 .1 .1 .0 w3 .0 in
+    let l = p .1 .1 .1 .1 .1 .1 in (
+      ap (λ r. asksSome (asksBy (channelCreatedReading r))) (field-there channelCreated.Fails w 12 4 _ (omega (arith, l)) ∙ (field-there channelCreated.Fails w 16 4 _ (omega (arith, l)) ∙ (field-there channelCreated.Fails w 20 4 _ (omega (arith, l)) ∙ ended-there channelCreated.Fails w 24 _ (omega (arith, l))))) ∙ some (eqb (wordAt w 12) 1 && (eqb (wordAt w 16) 0 && eqb (wordAt w 20) 0)) _ (rw (e3, e4, e5) given) refl,
+      message-back _ id (p .1 .0 w0 .0),
+      same e3 (same e4 (same e5 refl)),
+      record { first = p .0 small .0; third = p .1 .1 .0 (omega arith) .0 },
+      omega (arith, l),
+    )
+
 pub server-created-back : (id : MessageId) (b : ChannelCreated) (s : List ℕ) → Bytes s → (n : ℕ) → totalFrom (length s) 0 (piecesOf id (fields.ChannelCreatedByServer b)) ≡ total.Fits n → channelCreatedAllowed b ≡ true → Wide32 id (fields.ChannelCreatedByServer b) → Back id (fields.ChannelCreatedByServer b) s 3 1 0x100
-unfolding askedOf readingOf piecesOf fieldsIn numbersOf partsOf channelCreatedOf
+unfolding askedOf readingOf piecesOf fieldsIn numbersOf partsOf
 server-created-back id b s bytes n t given wide =
-    let w = bytesOf id (fields.ChannelCreatedByServer b) s in
-    let p = places s (piecesOf id (fields.ChannelCreatedByServer b)) n bytes t in
-    let h = p .0 (omega arith) .0 in
-    let m = p .1 .0 (wide .0) .0 in
-    let f = p .1 .1 .0 (omega arith) .0 in
-    let e3 = p .1 .1 .1 .0 (wide .1 0) .0 in
-    let e4 = p .1 .1 .1 .1 .0 (wide .1 1) .0 in
-    let e5 = p .1 .1 .1 .1 .1 .0 (wide .1 2) .0 in
-    let l = p .1 .1 .1 .1 .1 .1 in
-    record {
-      back = record {
-        asks = ap (λ r. asksSome (asksBy (channelCreatedReading r))) (field-there channelCreated.Fails w 12 4 _ (omega (arith, l)) ∙ (field-there channelCreated.Fails w 16 4 _ (omega (arith, l)) ∙ (field-there channelCreated.Fails w 20 4 _ (omega (arith, l)) ∙ (ended-there channelCreated.Fails w 24 _ (omega (arith, l)))))) ∙ some (eqb (wordAt w 12) 1 && (eqb (wordAt w 16) 0 && eqb (wordAt w 20) 0)) _ (rw (e3, e4, e5) given) refl;
-        message = message-back _ id m;
-        numbers = same e3 (same e4 (same e5 refl));
-        parts = refl;
-      };
-      head = record { first = h; third = f };
-      long = omega (arith, l);
-    }
+    let q = created-at (bytesOf id (fields.ChannelCreatedByServer b) s) s id 3 b (omega arith) (places s (piecesOf id (fields.ChannelCreatedByServer b)) n bytes t) given (wide .0) (wide .1 0) (wide .1 1) (wide .1 2) in
+    record { back = record { asks = q .0; message = q .1; numbers = q .2; parts = refl }; head = q .3; long = q .4 }
 
 pub client-created-back : (id : MessageId) (b : ChannelCreated) (s : List ℕ) → Bytes s → (n : ℕ) → totalFrom (length s) 0 (piecesOf id (fields.ChannelCreatedByClient b)) ≡ total.Fits n → channelCreatedAllowed b ≡ true → Wide32 id (fields.ChannelCreatedByClient b) → Back id (fields.ChannelCreatedByClient b) s 2 1 0x100
-unfolding askedOf readingOf piecesOf fieldsIn numbersOf partsOf channelCreatedOf
+unfolding askedOf readingOf piecesOf fieldsIn numbersOf partsOf
 client-created-back id b s bytes n t given wide =
-    let w = bytesOf id (fields.ChannelCreatedByClient b) s in
-    let p = places s (piecesOf id (fields.ChannelCreatedByClient b)) n bytes t in
-    let h = p .0 (omega arith) .0 in
-    let m = p .1 .0 (wide .0) .0 in
-    let f = p .1 .1 .0 (omega arith) .0 in
-    let e3 = p .1 .1 .1 .0 (wide .1 0) .0 in
-    let e4 = p .1 .1 .1 .1 .0 (wide .1 1) .0 in
-    let e5 = p .1 .1 .1 .1 .1 .0 (wide .1 2) .0 in
-    let l = p .1 .1 .1 .1 .1 .1 in
-    record {
-      back = record {
-        asks = ap (λ r. asksSome (asksBy (channelCreatedReading r))) (field-there channelCreated.Fails w 12 4 _ (omega (arith, l)) ∙ (field-there channelCreated.Fails w 16 4 _ (omega (arith, l)) ∙ (field-there channelCreated.Fails w 20 4 _ (omega (arith, l)) ∙ (ended-there channelCreated.Fails w 24 _ (omega (arith, l)))))) ∙ some (eqb (wordAt w 12) 1 && (eqb (wordAt w 16) 0 && eqb (wordAt w 20) 0)) _ (rw (e3, e4, e5) given) refl;
-        message = message-back _ id m;
-        numbers = same e3 (same e4 (same e5 refl));
-        parts = refl;
-      };
-      head = record { first = h; third = f };
-      long = omega (arith, l);
-    }
+    let q = created-at (bytesOf id (fields.ChannelCreatedByClient b) s) s id 2 b (omega arith) (places s (piecesOf id (fields.ChannelCreatedByClient b)) n bytes t) given (wide .0) (wide .1 0) (wide .1 1) (wide .1 2) in
+    record { back = record { asks = q .0; message = q .1; numbers = q .2; parts = refl }; head = q .3; long = q .4 }
 
 pub virtual-channel-back : (id : MessageId) (s : List ℕ) → Bytes s → (n : ℕ) → totalFrom (length s) 0 (piecesOf id (fields.AddVirtualChannel)) ≡ total.Fits n → Wide32 id (fields.AddVirtualChannel) → Back id (fields.AddVirtualChannel) s 1 1 0x100
 unfolding askedOf readingOf piecesOf fieldsIn numbersOf partsOf addVirtualChannelOf
@@ -366,59 +351,41 @@ callback-back id i count word s bytes n t given wide =
       long = long-of (length w) _ l (omega arith);
     }
 
-pub io-control-back : (id : MessageId) (i : ℕ) (b : IoControl) (s : List ℕ) → Bytes s → (n : ℕ) → totalFrom (length s) 0 (piecesOf id (fields.IoControl i b)) ≡ total.Fits n → (interfaceAllowed i && partAllowed s (b .input)) ≡ true → Wide32 id (fields.IoControl i b) → Back id (fields.IoControl i b) s i 1 0x102
-unfolding askedOf readingOf piecesOf fieldsIn numbersOf partsOf ioControlOf ioControlWith
-io-control-back id i b s bytes n t given wide =
-    let w = bytesOf id (fields.IoControl i b) s in
-    let p = places s (piecesOf id (fields.IoControl i b)) n bytes t in
-    let b30 = below-30 i (split (interfaceAllowed i) (partAllowed s (b .input)) given .0) in
+-- kinds 8 and 9 differ in their function
+io-at : (w s : List ℕ) (id : MessageId) (i function : ℕ) (b : IoControl) → function < 4294967296 → Places w s 0 (ioControlPieces id i function b) → interfaceAllowed i ≡ true → partAllowed s (b .input) ≡ true → id .0 < 4294967296 → b .code < 4294967296 → b .size < 4294967296 → b .request .0 < 4294967296
+    → (asksSome (asksBy (ioControlReading (ioControlOf w))) ≡ true) × (messageIn (wordAt w 4) ≡ id)
+    × (interfaceIn (wordAt w 0) .0 ∷ wordAt w 12 ∷ wordAt w (20 + wordAt w 16) ∷ wordAt w (20 + wordAt w 16 + 4) ∷ [] ≡ i ∷ b .code ∷ b .size ∷ b .request .0 ∷ []) × (cut w (record { start = 20; size = wordAt w 16 }) ≡ cut s (b .input)) × Headed i 1 function w × (12 ≤ length w)
+unfolding ioControlOf ioControlWith
+io-at w s id i function b small p gi gp w0 w1 w2 w3 =
+    let b30 = below-30 i gi in
     let h = p .0 (first-below i b30) .0 in
-    let m = p .1 .0 (wide .0) .0 in
-    let f = p .1 .1 .0 (omega arith) .0 in
-    let e3 = p .1 .1 .1 .0 (wide .1 1) .0 in
-    let e4 = p .1 .1 .1 .1 .0 (part-small s (b .input) (split (interfaceAllowed i) (partAllowed s (b .input)) given .1)) .0 in
+    let e3 = p .1 .1 .1 .0 w1 .0 in
+    let e4 = p .1 .1 .1 .1 .0 (part-small s (b .input) gp) .0 in
     let r5 = p .1 .1 .1 .1 .1 .0 in
-    let e6 = p .1 .1 .1 .1 .1 .1 .0 (wide .1 2) .0 in
-    let e7 = p .1 .1 .1 .1 .1 .1 .1 .0 (wide .1 3) .0 in
-    let l = p .1 .1 .1 .1 .1 .1 .1 .1 in
-    let k = interface-back (wordAt w 0) i h b30 in
-    record {
-      back = record {
-        asks = ap (λ r. asksSome (asksBy (ioControlReading r))) (field-there ioControl.Fails w 12 4 _ (reach (length w) (20 + b .input .size + 4 + 4) 16 l (omega arith)) ∙ (field-there ioControl.Fails w 16 4 _ (reach (length w) (20 + b .input .size + 4 + 4) 20 l (omega arith)) ∙ (field-there ioControl.Fails w 20 (wordAt w 16) _ (rw e4 (reach (length w) (20 + b .input .size + 4 + 4) (20 + b .input .size) l (omega arith))) ∙ (field-there ioControl.Fails w (20 + wordAt w 16) 4 _ (rw e4 (reach (length w) (20 + b .input .size + 4 + 4) (20 + b .input .size + 4) l (omega arith))) ∙ (field-there ioControl.Fails w (20 + wordAt w 16 + 4) 4 _ (rw e4 (reach (length w) (20 + b .input .size + 4 + 4) (20 + b .input .size + 4 + 4) l (omega arith))) ∙ (ended-there ioControl.Fails w (20 + wordAt w 16 + 8) _ (rw e4 (within (length w) (20 + b .input .size + 4 + 4) (20 + b .input .size + 8) l (omega arith)))))))));
-        message = message-back _ id m;
-        numbers = same k (same e3 (same (ap (λ x. wordAt w (20 + x)) e4 ∙ e6) (same (ap (λ x. wordAt w (20 + x + 4)) e4 ∙ e7) refl)));
-        parts = same (ap (λ x. cut w (record { start = 20; size = x })) e4 ∙ r5) refl;
-      };
-      head = record { first = h; third = f };
-      long = long-of (length w) _ l (omega arith);
-    }
+    let e6 = p .1 .1 .1 .1 .1 .1 .0 w2 .0 in
+    let e7 = p .1 .1 .1 .1 .1 .1 .1 .0 w3 .0 in
+    let l = p .1 .1 .1 .1 .1 .1 .1 .1 in (
+      ap (λ r. asksSome (asksBy (ioControlReading r))) (field-there ioControl.Fails w 12 4 _ (reach (length w) (20 + b .input .size + 4 + 4) 16 l (omega arith)) ∙ (field-there ioControl.Fails w 16 4 _ (reach (length w) (20 + b .input .size + 4 + 4) 20 l (omega arith)) ∙ (field-there ioControl.Fails w 20 (wordAt w 16) _ (rw e4 (reach (length w) (20 + b .input .size + 4 + 4) (20 + b .input .size) l (omega arith))) ∙ (field-there ioControl.Fails w (20 + wordAt w 16) 4 _ (rw e4 (reach (length w) (20 + b .input .size + 4 + 4) (20 + b .input .size + 4) l (omega arith))) ∙ (field-there ioControl.Fails w (20 + wordAt w 16 + 4) 4 _ (rw e4 (reach (length w) (20 + b .input .size + 4 + 4) (20 + b .input .size + 4 + 4) l (omega arith))) ∙ (ended-there ioControl.Fails w (20 + wordAt w 16 + 8) _ (rw e4 (within (length w) (20 + b .input .size + 4 + 4) (20 + b .input .size + 8) l (omega arith))))))))),
+      message-back _ id (p .1 .0 w0 .0),
+      same (interface-back (wordAt w 0) i h b30) (same e3 (same (ap (λ x. wordAt w (20 + x)) e4 ∙ e6) (same (ap (λ x. wordAt w (20 + x + 4)) e4 ∙ e7) refl))),
+      ap (λ x. cut w (record { start = 20; size = x })) e4 ∙ r5,
+      record { first = h; third = p .1 .1 .0 small .0 },
+      long-of (length w) _ l (omega arith),
+    )
+
+pub io-control-back : (id : MessageId) (i : ℕ) (b : IoControl) (s : List ℕ) → Bytes s → (n : ℕ) → totalFrom (length s) 0 (piecesOf id (fields.IoControl i b)) ≡ total.Fits n → (interfaceAllowed i && partAllowed s (b .input)) ≡ true → Wide32 id (fields.IoControl i b) → Back id (fields.IoControl i b) s i 1 0x102
+unfolding askedOf readingOf piecesOf fieldsIn numbersOf partsOf
+io-control-back id i b s bytes n t given wide =
+    let g = split (interfaceAllowed i) (partAllowed s (b .input)) given in
+    let q = io-at (bytesOf id (fields.IoControl i b) s) s id i 0x102 b (omega arith) (places s (piecesOf id (fields.IoControl i b)) n bytes t) (g .0) (g .1) (wide .0) (wide .1 1) (wide .1 2) (wide .1 3) in
+    record { back = record { asks = q .0; message = q .1; numbers = q .2; parts = same (q .3) refl }; head = q .4; long = q .5 }
 
 pub internal-back : (id : MessageId) (i : ℕ) (b : IoControl) (s : List ℕ) → Bytes s → (n : ℕ) → totalFrom (length s) 0 (piecesOf id (fields.InternalIoControl i b)) ≡ total.Fits n → (interfaceAllowed i && partAllowed s (b .input)) ≡ true → Wide32 id (fields.InternalIoControl i b) → Back id (fields.InternalIoControl i b) s i 1 0x103
-unfolding askedOf readingOf piecesOf fieldsIn numbersOf partsOf ioControlOf ioControlWith
+unfolding askedOf readingOf piecesOf fieldsIn numbersOf partsOf
 internal-back id i b s bytes n t given wide =
-    let w = bytesOf id (fields.InternalIoControl i b) s in
-    let p = places s (piecesOf id (fields.InternalIoControl i b)) n bytes t in
-    let b30 = below-30 i (split (interfaceAllowed i) (partAllowed s (b .input)) given .0) in
-    let h = p .0 (first-below i b30) .0 in
-    let m = p .1 .0 (wide .0) .0 in
-    let f = p .1 .1 .0 (omega arith) .0 in
-    let e3 = p .1 .1 .1 .0 (wide .1 1) .0 in
-    let e4 = p .1 .1 .1 .1 .0 (part-small s (b .input) (split (interfaceAllowed i) (partAllowed s (b .input)) given .1)) .0 in
-    let r5 = p .1 .1 .1 .1 .1 .0 in
-    let e6 = p .1 .1 .1 .1 .1 .1 .0 (wide .1 2) .0 in
-    let e7 = p .1 .1 .1 .1 .1 .1 .1 .0 (wide .1 3) .0 in
-    let l = p .1 .1 .1 .1 .1 .1 .1 .1 in
-    let k = interface-back (wordAt w 0) i h b30 in
-    record {
-      back = record {
-        asks = ap (λ r. asksSome (asksBy (ioControlReading r))) (field-there ioControl.Fails w 12 4 _ (reach (length w) (20 + b .input .size + 4 + 4) 16 l (omega arith)) ∙ (field-there ioControl.Fails w 16 4 _ (reach (length w) (20 + b .input .size + 4 + 4) 20 l (omega arith)) ∙ (field-there ioControl.Fails w 20 (wordAt w 16) _ (rw e4 (reach (length w) (20 + b .input .size + 4 + 4) (20 + b .input .size) l (omega arith))) ∙ (field-there ioControl.Fails w (20 + wordAt w 16) 4 _ (rw e4 (reach (length w) (20 + b .input .size + 4 + 4) (20 + b .input .size + 4) l (omega arith))) ∙ (field-there ioControl.Fails w (20 + wordAt w 16 + 4) 4 _ (rw e4 (reach (length w) (20 + b .input .size + 4 + 4) (20 + b .input .size + 4 + 4) l (omega arith))) ∙ (ended-there ioControl.Fails w (20 + wordAt w 16 + 8) _ (rw e4 (within (length w) (20 + b .input .size + 4 + 4) (20 + b .input .size + 8) l (omega arith)))))))));
-        message = message-back _ id m;
-        numbers = same k (same e3 (same (ap (λ x. wordAt w (20 + x)) e4 ∙ e6) (same (ap (λ x. wordAt w (20 + x + 4)) e4 ∙ e7) refl)));
-        parts = same (ap (λ x. cut w (record { start = 20; size = x })) e4 ∙ r5) refl;
-      };
-      head = record { first = h; third = f };
-      long = long-of (length w) _ l (omega arith);
-    }
+    let g = split (interfaceAllowed i) (partAllowed s (b .input)) given in
+    let q = io-at (bytesOf id (fields.InternalIoControl i b) s) s id i 0x103 b (omega arith) (places s (piecesOf id (fields.InternalIoControl i b)) n bytes t) (g .0) (g .1) (wide .0) (wide .1 1) (wide .1 2) (wide .1 3) in
+    record { back = record { asks = q .0; message = q .1; numbers = q .2; parts = same (q .3) refl }; head = q .4; long = q .5 }
 
 pub io-completion-back : (id : MessageId) (i : ℕ) (b : IoControlCompletionFields) (s : List ℕ) → Bytes s → (n : ℕ) → totalFrom (length s) 0 (piecesOf id (fields.IoControlCompletion i b)) ≡ total.Fits n → (interfaceAllowed i && partAllowed s (b .output)) ≡ true → Wide32 id (fields.IoControlCompletion i b) → Back id (fields.IoControlCompletion i b) s i 1 0x100
 unfolding askedOf readingOf piecesOf fieldsIn numbersOf partsOf ioControlCompletionOf ioControlCompletionWith

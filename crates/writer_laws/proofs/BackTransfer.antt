@@ -83,7 +83,7 @@ use Rattle.writer_laws.proofs.Rebuilt.{both, refused}
 use Rattle.writer_laws.proofs.RebuiltDevice.{split}
 use Rattle.writer_laws.proofs.Walks.{along, half-take, word-take}
 use Rattle.writer_laws.proofs.Back.{Back, agrees-there, atLeast-there, below-30, ended-there, field-there, filled-there, first-below, half-same, interface-back, long-of, message-back, part-small, same, some}
-use Rattle.writer_laws.proofs.BackUrb.{StructureBack, held, nothing, structure-back, unmet}
+use Rattle.writer_laws.proofs.BackUrb.{StructureBack, fills, held, nothing, structure-back, unmet}
 
 -- an interface list that fills its part is whole rows
 list-rows : (s : List ℕ) (p : Part) (count pipes : ℕ) → listedOf s p count ≡ listed.Pipes pipes → partAllowed s p ≡ true → (r : ℕ) × (p .size ≡ 12 * r)
@@ -94,17 +94,6 @@ list-rows s p count pipes e a =
     let l : length (take e' s) ≡ e' = length-take-le e' s h in
     let v = along (take e' s) (take e' s) count 0 (p .start) (p .start) e' pipes (fills e' (interfacesOf (take e' s) count 0 (p .start)) pipes e) (λ j x y ex ey k. let z : y ≡ x = ey ∙ sym ex in rw z (refl, refl)) (omega arith) in
     (v .0, omega (arith, v .1))
-  where
-    none : {A : Type 0} {pipes : ℕ} → listed.Nothing ≡ listed.Pipes pipes → A
-    none e = absurd (omega (arith, (let z : _≡_ {A = ℕ} 0 1 = cc in z)))
-
-    fills : (end : ℕ) (x : Walk) (pipes : ℕ) → listedBy end x ≡ listed.Pipes pipes → x ≡ walk.End end pipes
-    fills end (walk.End last k) pipes e = go (eqb last end) refl e
-      where
-        go : (t : Bool) → eqb last end ≡ t → cond t (listed.Pipes k) listed.Nothing ≡ listed.Pipes pipes → walk.End last k ≡ walk.End end pipes
-        go true f e = let a = eqb-true last end f in let b : k ≡ pipes = cc in rw (a, b)
-        go false f e = none e
-    fills end (walk.Fails fault) pipes e = none e
 
 abbrev Rows : Structure → Type 0
 Rows (structure.SelectConfiguration b) = (r : ℕ) × (b .interfaces .size ≡ 12 * r)

@@ -74,6 +74,15 @@ unmet false a x e = (refl, e)
 is-found : (x y : Urb) → Is x ≡ Is y → x ≡ y
 is-found x y e = cc
 
+-- a list that fills its part was walked to its end
+pub fills : (end : ℕ) (x : Walk) (pipes : ℕ) → listedBy end x ≡ listed.Pipes pipes → x ≡ walk.End end pipes
+fills end (walk.End last k) pipes e = go (eqb last end) refl e
+  where
+    go : (t : Bool) → eqb last end ≡ t → cond t (listed.Pipes k) listed.Nothing ≡ listed.Pipes pipes → walk.End last k ≡ walk.End end pipes
+    go true f e = let a = eqb-true last end f in let b : k ≡ pipes = cc in rw (a, b)
+    go false f e = absurd (omega (arith, (let z : _≡_ {A = ℕ} 0 1 = cc in z)))
+fills end (walk.Fails fault) pipes e = absurd (omega (arith, (let z : _≡_ {A = ℕ} 0 1 = cc in z)))
+
 module _ (w s : List ℕ) (c : ℕ) (there : 16 + c ≤ length w) where
   abbrev u : List ℕ
   u = take (16 + c) w
@@ -150,20 +159,6 @@ module _ (w s : List ℕ) (c : ℕ) (there : 16 + c ≤ length w) where
       (let l = long in let z : p .start + p .size - p .start ≡ p .size = omega arith in rw (z, l) h) in
       let d : p .size ≡ 12 * v .0 = omega (arith, v .1) in
       (subst (λ k. interfacesOf u count 0 at ≡ walk.End (at + k) pipes) (sym d) (v .2), v .0, d)
-    where
-      fills : (end : ℕ) (x : Walk) (pipes : ℕ) → listedBy end x ≡ listed.Pipes pipes → x ≡ walk.End end pipes
-      fills end (walk.End last k) pipes e = go (eqb last end) refl e
-        where
-          go : (t : Bool) → eqb last end ≡ t → cond t (listed.Pipes k) listed.Nothing ≡ listed.Pipes pipes → walk.End last k ≡ walk.End end pipes
-          go true f e = let a = eqb-true last end f in let b : k ≡ pipes = cc in rw (a, b)
-          go false f e = none e
-            where
-              none : {A : Type 0} → listed.Nothing ≡ listed.Pipes pipes → A
-              none e = absurd (omega (arith, (let z : _≡_ {A = ℕ} 0 1 = cc in z)))
-      fills end (walk.Fails fault) pipes e = none e
-        where
-          none : {A : Type 0} → listed.Nothing ≡ listed.Pipes pipes → A
-          none e = absurd (omega (arith, (let z : _≡_ {A = ℕ} 0 1 = cc in z)))
 
   interface-back : (b : SelectInterfaceFields) (pipes : ℕ) → c ≡ 12 + b .interface .size → wordAt w 24 ≡ b .handle → listedOf s (b .interface) 1 ≡ listed.Pipes pipes → partAllowed s (b .interface) ≡ true
       → pieces.interfacesOf w (b .interface .size / 12) 0 28 ≡ pieces.interfacesOf s (b .interface .size / 12) 0 (b .interface .start) → RowsStand w s 28 (b .interface .start) (b .interface .size / 12)

@@ -49,6 +49,7 @@ use Rattle.writer_laws.specs.Rebuilt.{Rebuilt, asksSome, structureLayout
 use Rattle.writer_laws.proofs.Rebuilt.{Headed, asked, both, head-cut, holds, part-in, reaches, refused}
 use Rattle.writer_laws.proofs.RebuiltDevice.{split}
 use Rattle.writer_laws.proofs.RebuiltUrb.{Built, BuiltAs, structure-built}
+use Rattle.writer_laws.proofs.Places.{word-below}
 use Rattle.writer_laws.proofs.Walks.{half-take, word-take}
 
 -- a layout in two parts
@@ -65,9 +66,6 @@ spans-join (x ∷ xs) ys = let q = spans-join xs ys in omega arith
 -- a word is its two halves, and its RequestId with NoAck
 halves : (m : List ℕ) (at : ℕ) → halfAt m at + 65536 * halfAt m (at + 2) ≡ wordAt m at
 halves m at = let z : at + 2 + 1 ≡ at + 3 = omega arith in rw z (omega arith)
-
-word-below : (m : List ℕ) (at : ℕ) → Bytes m → wordAt m at < 4294967296
-word-below m at b = let b0 = b at in let b1 = b (at + 1) in let b2 = b (at + 2) in let b3 = b (at + 3) in omega arith
 
 request-back : (w : ℕ) → w < 4294967296 → requestWord (urbRequestIn w) (noAckIn w) ≡ w
 request-back w h = go (leb 0x8000_0000 w) (λ e. leb-true 0x8000_0000 w e) (λ e. leb-false 0x8000_0000 w e)
@@ -103,7 +101,7 @@ module _ (m : List ℕ) (fits : length m ≤ 65535) (bytes : Bytes m) where
       → Word size ∷ Word (size + 65536 * halfAt u 18) ∷ Word (requestWord (urbRequestIn (wordAt u 20)) (noAckIn (wordAt u 20))) ∷ rest ≡ Word (wordAt m 12) ∷ Word (wordAt m 16) ∷ Word (wordAt m 20) ∷ rest'
   first-words size h g s rest rest' e =
       let a : size + 65536 * halfAt u 18 ≡ wordAt m 16 = ap (λ z. z + 65536 * halfAt u 18) (s ∙ sym g) ∙ (halves u 16 ∙ word-take m (16 + n) 16 (omega arith)) in
-      let b : requestWord (urbRequestIn (wordAt u 20)) (noAckIn (wordAt u 20)) ≡ wordAt m 20 = ap (λ w. requestWord (urbRequestIn w) (noAckIn w)) (word-20 h) ∙ request-back (wordAt m 20) (word-below m 20 bytes) in
+      let b : requestWord (urbRequestIn (wordAt u 20)) (noAckIn (wordAt u 20)) ≡ wordAt m 20 = ap (λ w. requestWord (urbRequestIn w) (noAckIn w)) (word-20 h) ∙ request-back (wordAt m 20) (word-below m bytes 20) in
       ap (λ x. Word x ∷ Word (size + 65536 * halfAt u 18) ∷ Word (requestWord (urbRequestIn (wordAt u 20)) (noAckIn (wordAt u 20))) ∷ rest) s ∙
       (ap (λ x. Word n ∷ Word x ∷ Word (requestWord (urbRequestIn (wordAt u 20)) (noAckIn (wordAt u 20))) ∷ rest) a ∙
       (ap (λ x. Word n ∷ Word (wordAt m 16) ∷ Word x ∷ rest) b ∙ ap (λ x. Word n ∷ Word (wordAt m 16) ∷ Word (wordAt m 20) ∷ x) e))
