@@ -3,7 +3,7 @@ use Prim.Native.Nat.{ℕ, _+_, _<_, _≤_}
 use native.Mathlib.Omega.{arith}
 use mathlib.Core.Path.{_≡_, refl, ap, sym, subst, _∙_}
 use mathlib.Core.Logic.{_⊎_, inl, inr}
-use mathlib.Core.List.{List, [], _∷_}
+use mathlib.Core.List.{List}
 use mathlib.Core.Bool.{Bool, true, false, cond}
 use lib.ListN.{length, take}
 use lib.Seq.{take-length}
@@ -46,12 +46,13 @@ use Rattle.promises.specs.Sound.{Sound}
 use Rattle.promises.proofs.Sound.{reached-sound}
 use Rattle.pieces.specs.Pieces as pieces
 use Rattle.pieces.specs.declared.piece.Written.the-variants.{Whole, Room}
+use Rattle.pieces.proofs.Pieces.{encode-length}
 use Rattle.writer.specs.Message.{bytesOf, givenIn, piecesOf, writtenOf}
 use Rattle.fields.specs.Message.{fieldsIn}
-use Rattle.writer_laws.specs.Layout.{Bytes, clearedFrom, cutsFrom, spansOf, word}
+use Rattle.writer_laws.specs.Layout.{Bytes, Kept, clearedFrom, cutsFrom, spansOf}
 use Rattle.writer_laws.specs.Rebuilt.{Rebuilt, asksSome, layoutOf}
-use Rattle.writer_laws.specs.Passed.{Again, HasKind, Passes, Passing, Unpadded, headIn}
-use Rattle.writer_laws.proofs.Cleared.{Kept, all-cleared, all-fit, all-kept}
+use Rattle.writer_laws.specs.Passed.{Again, HasKind, Passes, Passing, headIn}
+use Rattle.writer_laws.proofs.Cleared.{all-cleared, all-fit, all-kept}
 use Rattle.writer_laws.proofs.Rebuilt as simple
 use Rattle.writer_laws.proofs.RebuiltDevice.{device-rebuilt}
 use Rattle.writer_laws.proofs.RebuiltTransfer.{in-rebuilt, out-rebuilt}
@@ -77,27 +78,9 @@ rebuilt-kind kind.IoControlCompletion m l f b h = simple.io-completion-rebuilt m
 rebuilt-kind kind.UrbCompletion m l f b h = simple.urb-completion-rebuilt m l f (h .0) (h .1)
 rebuilt-kind kind.UrbCompletionNoData m l f b h = simple.no-data-rebuilt m l f (h .0) (h .1)
 
--- where 000 has no padding in a kind, nothing is cleared
-unpadded-same : (k : Kind) (m : List ℕ) → Unpadded k → Rebuilt k m → clearedFrom m 0 (layoutOf k m) ≡ m
-unpadded-same k m u r = all-kept m 0 (layoutOf k m) (kept k m u) ∙ (ap (λ n. take n m) (r .spans) ∙ take-length m)
-  where
-    kept : (k : Kind) (m : List ℕ) → Unpadded k → Kept (layoutOf k m)
-    kept kind.CapabilityRequest m u = tt
-    kept kind.CapabilityResponse m u = tt
-    kept kind.ChannelCreatedByServer m u = tt
-    kept kind.ChannelCreatedByClient m u = tt
-    kept kind.AddVirtualChannel m u = tt
-    kept kind.AddDevice m u = tt
-    kept kind.CancelRequest m u = tt
-    kept kind.RegisterRequestCallback m u = go (eqb (wordAt m 12) 0)
-      where
-        go : (t : Bool) → Kept (cond t [] (word ∷ []))
-        go true = tt
-        go false = tt
-    kept kind.IoControl m u = tt
-    kept kind.InternalIoControl m u = tt
-    kept kind.RetractDevice m u = tt
-    kept kind.IoControlCompletion m u = tt
+-- where a layout has no padding, nothing is cleared
+unpadded-same : (k : Kind) (m : List ℕ) → Kept (layoutOf k m) → Rebuilt k m → clearedFrom m 0 (layoutOf k m) ≡ m
+unpadded-same k m u r = all-kept m 0 (layoutOf k m) u ∙ (ap (λ n. take n m) (r .spans) ∙ take-length m)
 
 -- what is rebuilt is written
 pub again : (k : Kind) (m : List ℕ) → length m ≤ 65535 → Bytes m → Rebuilt k m → Again m k
@@ -106,8 +89,12 @@ again k m f b r =
     record {
       answer = λ room. rw (r .given, r .pieces, all-fit m 0 (layoutOf k m) f (omega (arith, r .spans)));
       bytes = ap (pieces.encode m) (r .pieces) ∙ all-cleared m b 0 (layoutOf k m) (omega (arith, r .spans));
+      long = exact _ _ (encode-length m (piecesOf (messageIn (wordAt m 4)) (fieldsIn k m)) 0 (length m) (rw (r .pieces) (all-fit m 0 (layoutOf k m) f (omega (arith, r .spans)))));
       same = λ u. ap (pieces.encode m) (r .pieces) ∙ (all-cleared m b 0 (layoutOf k m) (omega (arith, r .spans)) ∙ unpadded-same k m u r);
     }
+  where
+    exact : (a b : ℕ) → 0 + a ≡ b → a ≡ b
+    exact a b e = omega arith
 
 -- an answer that passes no check
 fails : {A : Type 0} (n : ℕ) → 1 ≤ n → n ≤ 8 → Passing n → A

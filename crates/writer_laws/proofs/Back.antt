@@ -91,7 +91,7 @@ use Rattle.fields.specs.UrbCompletion.{noDataIn, urbCompletionIn}
 use Rattle.writer_laws.specs.Layout.{Bytes}
 use Rattle.writer_laws.specs.Places.{Places}
 use Rattle.writer_laws.specs.Rebuilt.{asksSome}
-use Rattle.writer_laws.specs.ReadBack.{ReadBack, Wide32, kindOf, numbersOf, partsOf}
+use Rattle.writer_laws.specs.ReadBack.{Wide32, kindOf, numbersOf, partsOf}
 use Rattle.writer_laws.proofs.Places.{fits-length, places}
 use Rattle.writer_laws.proofs.Rebuilt.{Headed, refused}
 use Rattle.writer_laws.proofs.RebuiltDevice.{split}
@@ -132,9 +132,16 @@ below-30 i e = ltb-true i 0x4000_0000 (split (leb 4 i) (ltb i 0x4000_0000) e .1)
 pub first-below : (i : ℕ) → i < 0x4000_0000 → i + 0x4000_0000 * 1 < 4294967296
 first-below i h = omega arith
 
+-- what is read back by the places of the fields
+pub record FieldsBack (id : MessageId) (f : Fields) (s : List ℕ) (w : List ℕ) : Type 0 where
+  pub asks : asksSome (askedOf (kindOf f) w) ≡ true
+  pub message : messageIn (wordAt w 4) ≡ id
+  pub numbers : numbersOf (fieldsIn (kindOf f) w) ≡ numbersOf f
+  pub parts : partsOf w (fieldsIn (kindOf f) w) ≡ partsOf s f
+
 -- what a message's fields, its header and its length are
 pub record Back (id : MessageId) (f : Fields) (s : List ℕ) (i mask function : ℕ) : Type 0 where
-  pub back : ReadBack id f s (bytesOf id f s)
+  pub back : FieldsBack id f s (bytesOf id f s)
   pub head : Headed i mask function (bytesOf id f s)
   pub long : 12 ≤ length (bytesOf id f s)
 

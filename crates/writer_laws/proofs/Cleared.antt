@@ -17,7 +17,7 @@ use Rattle.pieces.specs.declared.piece.Piece.{Piece}
 use Rattle.pieces.specs.declared.piece.Piece.the-variants.{Nothing, Word, Run, Interfaces}
 use Rattle.pieces.specs.declared.piece.Row.{Row}
 use Rattle.pieces.specs.declared.piece.Total.the-variants as total
-use Rattle.writer_laws.specs.Layout.{Bytes, Field, none, empty, word, half, byte, run, interfaces, bytesFrom, clearedAt, clearedFrom, clearedRow, clearedRows, cutAt, cutsFrom, spanOf, spansOf}
+use Rattle.writer_laws.specs.Layout.{Bytes, Field, Kept, none, empty, word, half, byte, run, interfaces, bytesFrom, clearedAt, clearedFrom, clearedRow, clearedRows, cutAt, cutsFrom, spanOf, spansOf}
 
 -- from one byte to the next
 next : (m : List ℕ) (at to : ℕ) → to ≡ at + 1 → at < length m → drop at m ≡ byteAt m at ∷ drop to m
@@ -138,18 +138,7 @@ all-fit m at (f ∷ fs) l h =
     let q = field-lies m at f (omega arith) in
     rw (q .0, q .1, le-ltb (65535 - at) (spanOf f) (omega arith)) (all-fit m (at + spanOf f) fs l (omega arith))
 
--- a layout with no padding in it
-abbrev pub Kept : List Field → Type 0
-Kept [] = Unit {0}
-Kept (none ∷ fs) = Kept fs
-Kept (empty ∷ fs) = Kept fs
-Kept (word ∷ fs) = Kept fs
-Kept (half ∷ fs) = ⊥
-Kept (byte ∷ fs) = ⊥
-Kept (run n ∷ fs) = Kept fs
-Kept (interfaces n ∷ fs) = ⊥
-
--- cuts out all of its bytes
+-- a layout with no padding in it cuts out all of its bytes
 pub all-kept : (m : List ℕ) (at : ℕ) (fs : List Field) → Kept fs → clearedFrom m at fs ≡ bytesFrom m at (spansOf fs)
 unfolding clearedFrom spansOf
 all-kept m at [] k = refl

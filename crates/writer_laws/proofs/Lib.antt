@@ -7,6 +7,7 @@ pub mod RebuiltUrb
 pub mod RebuiltTransfer
 pub mod Headers
 pub mod Again
+pub mod Found
 pub mod Back
 pub mod BackDevice
 pub mod BackUrb

@@ -15,6 +15,7 @@ use Rattle.urb.specs.Interfaces.{interfacesOf, larger, lengthAgrees, pipesOf}
 use Rattle.urb.specs.declared.interfaces.Walk.the-variants.{End}
 use Rattle.urb.proofs.Walk.{pipes-closed}
 use Rattle.pieces.specs.Interface.{interfaceBytes, narrowFrom, numbersAllowed, numbersBytes}
+use Rattle.pieces.proofs.Numbers.{interface-length}
 use Rattle.writer_laws.specs.Places.{WordStands}
 use Rattle.writer_laws.specs.Numbers.{InterfaceSays, PipeSays}
 use Rattle.writer_laws.proofs.Places.{word-behind}
@@ -87,7 +88,7 @@ says ns pre rest w at allowed wide e l =
           let w2 = ws (3 * j + 2) (at + 12 + 12 * j + 8) (subst (λ x. 3 * j + 2 < x) (sym d) (inside j 2 n h (omega arith))) (omega arith) (subst (λ x. x < 4294967296) (sym k2) (wide (3 + 3 * j + 2))) in
           let q = small (getD ns (3 + 3 * j) 0) (narrow-at ns 3 (n / 3 - 1) j (3 + 3 * j) (g5 .1) h refl) in
           record { packet = w0 .1 ∙ (ap (λ x. x % 65536) k0 ∙ q .0); padding = w0 .2 ∙ (ap (λ x. x / 65536) k0 ∙ q .1); transfer = w1 .0 ∙ k1; flags = w2 .0 ∙ k2 };
-      walked = λ most h.
+      walked = λ most. let h : at + 4 * n ≤ length w = reaches e l n3 in
           rw (
             le-ltb (left w at) 12 (room at n (length w) n3 h),
             s2 .0,
@@ -132,6 +133,9 @@ says ns pre rest w at allowed wide e l =
 
     ends : (at n : ℕ) → 3 ≤ n → n % 3 ≡ 0 → at + 12 + 12 * (n / 3 - 1) ≡ at + 4 * n
     ends at n h g = omega arith
+
+    reaches : w ≡ pre ++ (interfaceBytes ns ++ rest) → at ≡ length pre → 3 ≤ length ns → at + 4 * length ns ≤ length w
+    reaches e l h = rw (e, length-append, length-append, interface-length ns h, l) (omega arith)
 
     bound-0 : (n a : ℕ) → n ≤ 93 → a ≤ 65535 → 4 * n + 65536 * a < 4294967296
     bound-0 n a h g = omega arith

@@ -18,8 +18,8 @@ use Rattle.header.specs.declared.shared_msg_header.Header.{Header}
 use Rattle.answers.specs.Phase.{phasesOf}
 use Rattle.answers.specs.declared.kind.Kind.{Kind}
 use Rattle.answers.specs.declared.kind.Kind.the-variants as kind
-use Rattle.wire.specs.Message.{askedOf}
-use Rattle.wire.specs.Reading.{readingOf}
+use Rattle.wire.specs.Message.{askedOf, asksBy}
+use Rattle.wire.specs.Reading.{Fails, Fits, Reading, readingOf}
 use Rattle.wire.specs.RetractDevice.{retractDeviceAllowed, retractDeviceOf}
 use Rattle.wire.specs.AddDevice.{addDeviceOf}
 use Rattle.wire.specs.AddVirtualChannel.{addVirtualChannelOf}
@@ -62,11 +62,13 @@ use Rattle.writer.specs.declared.message.Fields.{Fields}
 use Rattle.writer.specs.declared.message.Fields.the-variants as fields
 use Rattle.writer_laws.specs.Layout.{Bytes}
 use Rattle.writer_laws.specs.Rebuilt.{asksSome}
-use Rattle.writer_laws.specs.Passed.{Passes, headIn}
+use Rattle.writer_laws.specs.Passed.{HasKind, Passes, headIn}
 use Rattle.writer_laws.specs.ReadBack.{Allows, Goes, Knows, ReadBack, Wide32, kindOf, sideOf}
 use Rattle.writer_laws.proofs.Places.{fits-length}
 use Rattle.writer_laws.proofs.Rebuilt.{Headed, refused}
 use Rattle.writer_laws.proofs.RebuiltDevice.{split}
+use Rattle.writer_laws.proofs.Found.{Same}
+use Rattle.writer_laws.proofs.Found as fields-found
 use Rattle.writer_laws.proofs.Back as back
 use Rattle.writer_laws.proofs.BackDevice.{device-back}
 use Rattle.writer_laws.proofs.BackTransfer.{in-back, out-back}
@@ -149,7 +151,7 @@ module _ (i : ℕ) (id : MessageId) (four : 4 ≤ i) where
 -- what is shown of the fields of each kind
 abbrev Got : MessageId → Fields → List ℕ → Type 0
 Got id f s =
-    ReadBack id f s (bytesOf id f s) × (12 ≤ length (bytesOf id f s)) ×
+    back.FieldsBack id f s (bytesOf id f s) × (12 ≤ length (bytesOf id f s)) ×
     ((c : Channel) → Goes c f → (firstFitting kinds (headIn (bytesOf id f s)) (sideOf f) (c .device) (c .callback) ≡ found.Is (kindOf f)) × passes.NoAckAllowed (c .jitter) (askedOf (kindOf f) (bytesOf id f s)))
 
 abbrev Gets : MessageId → Fields → List ℕ → Type 0
@@ -237,18 +239,27 @@ all-of id f s bytes wide room n e =
     let t = fit room n (pieces.totalFrom (length s) 0 (piecesOf id f)) (g .1) in
     (t, got id s bytes f n t (g .0) wide)
 
+-- what was found at the places of the fields, found by the reader
+by-reader : (id : MessageId) (f : Fields) (s w : List ℕ) (r : Reading) → readingOf (kindOf f) w ≡ r → Same (kindOf f) w r → asksSome (asksBy r) ≡ true → back.FieldsBack id f s w → ReadBack id f s w
+by-reader id f s w (Fits b) e q a k = record { body = b; reads = e; asks = a; message = k .message; numbers = q .0 ∙ k .numbers; parts = q .1 ∙ k .parts }
+by-reader id f s w (Fails fault) e q a k = refused a
+
 -- What is written is as long as the answer says, and the reader finds in it the fields that were given.
 pub read-back : (id : MessageId) (f : Fields) (s : List ℕ) → Bytes s → Wide32 id f → (room n : ℕ) → writtenOf id f s room ≡ Whole n → (length (bytesOf id f s) ≡ n) × ReadBack id f s (bytesOf id f s)
-read-back id f s bytes wide room n e = let q = all-of id f s bytes wide room n e in (exact (length (bytesOf id f s)) n (encode-length s (piecesOf id f) 0 n (q .0)), q .1 .0)
+unfolding askedOf
+read-back id f s bytes wide room n e =
+    let q = all-of id f s bytes wide room n e in
+    let w = bytesOf id f s in
+    (exact (length w) n (encode-length s (piecesOf id f) 0 n (q .0)), by-reader id f s w (readingOf (kindOf f) w) refl (fields-found.found (kindOf f) w (fits-length s (piecesOf id f) n (q .0))) (q .1 .0 .asks) (q .1 .0))
   where
     exact : (a b : ℕ) → 0 + a ≡ b → a ≡ b
     exact a b e = omega arith
 
--- On a table that allows it, what is written passes checks 3 to 8.
+-- On a table that allows it, what is written has the kind of its fields and passes checks 3 to 8.
 pub allowed-passes : (id : MessageId) (f : Fields) (s : List ℕ) → Bytes s → Wide32 id f → (room n : ℕ) → writtenOf id f s room ≡ Whole n
-    → (t : Table) (channel stamp : ℕ) → usedUp (t .next) ≡ false → noPlace channel (sideOf f) ≡ false → Allows (channelOf t channel) f → Passes (judgeOf t channel (sideOf f) stamp (bytesOf id f s) .answer)
+    → (t : Table) (channel stamp : ℕ) → usedUp (t .next) ≡ false → noPlace channel (sideOf f) ≡ false → Allows (channelOf t channel) f → HasKind (channelOf t channel) (sideOf f) (bytesOf id f s) (kindOf f) × Passes (judgeOf t channel (sideOf f) stamp (bytesOf id f s) .answer)
 unfolding judgeOf
 allowed-passes id f s bytes wide room n e t channel stamp u p a =
     let q = all-of id f s bytes wide room n e in
     let g = q .1 .2 (channelOf t channel) (a .1) in
-    rw (u, p) (passes.verdict-passes (channelOf t channel) (t .next) (sideOf f) (bytesOf id f s) (kindOf f) (q .1 .1) (fits-length s (piecesOf id f) n (q .0)) (g .0) (a .0) (q .1 .0 .asks) (g .1))
+    (g .0, rw (u, p) (passes.verdict-passes (channelOf t channel) (t .next) (sideOf f) (bytesOf id f s) (kindOf f) (q .1 .1) (fits-length s (piecesOf id f) n (q .0)) (g .0) (a .0) (q .1 .0 .asks) (g .1)))

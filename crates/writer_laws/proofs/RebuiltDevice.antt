@@ -126,7 +126,7 @@ module _ (m : List ℕ) (fits : length m ≤ 65535) where
   abbrev pub second : ℕ → ℕ
   second at = at + 4 + 2 * wordAt m at
 
-  pair-by : (P : PairRead → Type 0) → ((f : Fault) → P (pair.Fails f)) → (at : ℕ)
+  pub pair-by : (P : PairRead → Type 0) → ((f : Fault) → P (pair.Fails f)) → (at : ℕ)
       → (second at ≤ length m → second (second at) ≤ length m → P (pair.Fits (record { first = textAt m at; second = textAt m (second at) }) (second (second at)))) → P (pairOf m at)
   unfolding pairOf
   pair-by P bad at next =

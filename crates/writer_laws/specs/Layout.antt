@@ -81,6 +81,17 @@ unfoldable pub clearedFrom : List ℕ → ℕ → List Field → List ℕ
 clearedFrom m at [] = []
 clearedFrom m at (f ∷ fs) = clearedAt m at f ++ clearedFrom m (at + spanOf f) fs
 
+-- a layout with no padding in it
+abbrev pub Kept : List Field → Type 0
+Kept [] = Unit {0}
+Kept (none ∷ fs) = Kept fs
+Kept (empty ∷ fs) = Kept fs
+Kept (word ∷ fs) = Kept fs
+Kept (half ∷ fs) = ⊥
+Kept (byte ∷ fs) = ⊥
+Kept (run n ∷ fs) = Kept fs
+Kept (interfaces n ∷ fs) = ⊥
+
 -- every number of a list is a byte
 abbrev pub Bytes : List ℕ → Type 0
 Bytes m = (i : ℕ) → byteAt m i < 256

@@ -1,5 +1,5 @@
 -- What a theorem says of an interface that was written from plain numbers, in rows of three: at a place of a message w it says them (000 2.2.9.1.2, 2.2.9.1.3).
-use Prim.Native.Nat.{ℕ, _+_, _*_, _-_, _/_, _<_, _≤_}
+use Prim.Native.Nat.{ℕ, _+_, _*_, _-_, _/_, _<_}
 use mathlib.Core.Path.{_≡_}
 use mathlib.Core.List.{List}
 use lib.ListN.{getD, length}
@@ -24,4 +24,4 @@ pub record InterfaceSays (w : List ℕ) (at : ℕ) (ns : List ℕ) : Type 0 wher
   pub count : wordAt w (at + 8) ≡ length ns / 3 - 1
   pub pipes : (j : ℕ) → j < length ns / 3 - 1 → PipeSays w (at + 12 + 12 * j) ns (3 + 3 * j)
   -- and the reader walks over it
-  pub walked : (most : ℕ) → at + 4 * length ns ≤ length w → interfacesOf w 1 most at ≡ End (at + 4 * length ns) (larger most (length ns / 3 - 1))
+  pub walked : (most : ℕ) → interfacesOf w 1 most at ≡ End (at + 4 * length ns) (larger most (length ns / 3 - 1))

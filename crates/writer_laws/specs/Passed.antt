@@ -13,14 +13,13 @@ use Rattle.header.specs.declared.ids.Known.{Known}
 use Rattle.answers.specs.Answer.{answerNumber}
 use Rattle.answers.specs.declared.answer.Answer.{Answer}
 use Rattle.answers.specs.declared.kind.Kind.{Kind}
-use Rattle.answers.specs.declared.kind.Kind.the-variants as kind
 use Rattle.kinds.specs.Kinds.{firstFitting, kinds}
 use Rattle.kinds.specs.declared.kind.KindFound.the-variants as found
 use Rattle.channel.specs.declared.channel.Channel.{Channel}
 use Rattle.pieces.specs.declared.piece.Written.the-variants.{Whole, Room}
 use Rattle.writer.specs.Message.{bytesOf, writtenOf}
 use Rattle.fields.specs.Message.{fieldsIn}
-use Rattle.writer_laws.specs.Layout.{clearedFrom}
+use Rattle.writer_laws.specs.Layout.{Kept, clearedFrom}
 use Rattle.writer_laws.specs.Rebuilt.{layoutOf}
 
 -- a call passes checks 3 to 8: it is accepted, or refused for what a row or the rows of its channel say
@@ -38,28 +37,10 @@ headIn m = record { interface = interfaceIn (wordAt m 0); mask = maskIn (wordAt 
 abbrev pub HasKind : Channel → ℕ → List ℕ → Kind → Type 0
 HasKind c side m k = firstFitting kinds (headIn m) side (c .device) (c .callback) ≡ found.Is k
 
--- the kinds in whose messages 000 has no padding: all but the transfers, whose TsUrb may have some, and the two URB completions, whose result's header has two bytes
-abbrev pub Unpadded : Kind → Type 0
-Unpadded kind.CapabilityRequest = Unit {0}
-Unpadded kind.CapabilityResponse = Unit {0}
-Unpadded kind.ChannelCreatedByServer = Unit {0}
-Unpadded kind.ChannelCreatedByClient = Unit {0}
-Unpadded kind.AddVirtualChannel = Unit {0}
-Unpadded kind.AddDevice = Unit {0}
-Unpadded kind.CancelRequest = Unit {0}
-Unpadded kind.RegisterRequestCallback = Unit {0}
-Unpadded kind.IoControl = Unit {0}
-Unpadded kind.InternalIoControl = Unit {0}
-Unpadded kind.TransferInRequest = ⊥
-Unpadded kind.TransferOutRequest = ⊥
-Unpadded kind.RetractDevice = Unit {0}
-Unpadded kind.IoControlCompletion = Unit {0}
-Unpadded kind.UrbCompletion = ⊥
-Unpadded kind.UrbCompletionNoData = ⊥
-
 -- a message of a kind, written again from its fields with itself as the lent bytes, is as long, and is the same bytes but for its padding, which is 0
 pub record Again (m : List ℕ) (k : Kind) : Type 0 where
   pub answer : (room : ℕ) → writtenOf (messageIn (wordAt m 4)) (fieldsIn k m) m room ≡ cond (ltb room (length m)) Room (Whole (length m))
   pub bytes : bytesOf (messageIn (wordAt m 4)) (fieldsIn k m) m ≡ clearedFrom m 0 (layoutOf k m)
-  -- and where 000 has no padding in the kind, it is the very same bytes
-  pub same : Unpadded k → bytesOf (messageIn (wordAt m 4)) (fieldsIn k m) m ≡ m
+  pub long : length (bytesOf (messageIn (wordAt m 4)) (fieldsIn k m) m) ≡ length m
+  -- and where its layout has no padding, it is the very same bytes
+  pub same : Kept (layoutOf k m) → bytesOf (messageIn (wordAt m 4)) (fieldsIn k m) m ≡ m

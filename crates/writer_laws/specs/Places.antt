@@ -1,4 +1,4 @@
--- Where the pieces of a message stand: the layout of a message as a list of steps, by which both the reader's and the writer's definitions go.
+-- Where the pieces of a message that was written stand in it.
 use Prim.Native.Nat.{ℕ, _+_, _*_, _/_, _%_, _<_}
 use mathlib.Core.Path.{_≡_}
 use mathlib.Core.List.{List, [], _∷_}

@@ -1,5 +1,5 @@
 -- What a theorem says of what is written: the reader finds in it the fields that were given, a part by its bytes and not by its place.
-use Prim.Native.Nat.{ℕ, _/_, _<_}
+use Prim.Native.Nat.{ℕ, _+_, _*_, _/_, _<_}
 use mathlib.Core.Path.{_≡_}
 use mathlib.Core.List.{List, [], _∷_, _++_}
 use mathlib.Core.Bool.{Bool, true, false, cond}
@@ -8,9 +8,14 @@ use lib.Dec.{eqb}
 use Rattle.words.specs.declared.layout.Part.{Part}
 use Rattle.answers.specs.declared.kind.Kind.{Kind}
 use Rattle.answers.specs.declared.kind.Kind.the-variants as kind
-use Rattle.header.specs.Ids.{messageIn}
+use Rattle.header.specs.Ids.{interfaceIn, messageIn}
+use Rattle.header.specs.declared.ids.InterfaceId.{InterfaceId}
 use Rattle.header.specs.declared.ids.MessageId.{MessageId}
-use Rattle.wire.specs.Message.{askedOf}
+use Rattle.urb.specs.declared.ts_urb.TsUrb.{TsUrb}
+use Rattle.urb.specs.declared.ts_urb.Urb.{Urb}
+use Rattle.urb.specs.declared.ts_urb.Urb.the-variants as urb
+use Rattle.wire.specs.Message.{asksWith}
+use Rattle.wire.specs.Reading.{Body, Fits, capabilityRequestBody, capabilityResponseBody, channelCreatedBody, addVirtualChannelBody, addDeviceBody, cancelRequestBody, registerRequestCallbackBody, ioControlBody, transferInRequestBody, transferOutRequestBody, retractDeviceBody, ioControlCompletionBody, urbCompletionBody, urbCompletionNoDataBody, readingOf}
 use Rattle.pieces.specs.Pieces.{cut, interfacesOf}
 use Rattle.writer.specs.declared.register_request_callback.RequestCompletion.{RequestCompletion}
 use Rattle.writer.specs.declared.register_request_callback.RequestCompletion.the-variants as completion
@@ -19,7 +24,6 @@ use Rattle.writer.specs.declared.ts_urb.Structure.the-variants as structure
 use Rattle.writer.specs.declared.ts_urb.TsUrbFields.{TsUrbFields}
 use Rattle.writer.specs.declared.message.Fields.{Fields}
 use Rattle.writer.specs.declared.message.Fields.the-variants.{CapabilityRequest, CapabilityResponse, ChannelCreatedByServer, ChannelCreatedByClient, AddVirtualChannel, AddDevice, RegisterRequestCallback, IoControl, InternalIoControl, TransferInRequest, TransferOutRequest, CancelRequest, RetractDevice, IoControlCompletion, UrbCompletion, UrbCompletionNoData}
-use Rattle.fields.specs.Message.{fieldsIn}
 use Rattle.words.specs.Words.{wordAt}
 use Rattle.header.specs.declared.ids.Known.{Known}
 use Rattle.header.specs.declared.ids.Known.the-variants as known
@@ -121,12 +125,79 @@ partsOf s (UrbCompletionNoData i b) = cut s (b .urb .rest) ∷ []
 abbrev pub Wide32 : MessageId → Fields → Type 0
 Wide32 id f = (id .0 < 4294967296) × ((j : ℕ) → getD (numbersOf f) j 0 < 4294967296)
 
--- what is written, w, asks something of a channel, and its MessageId, its numbers and the bytes of its parts are those that were given
+-- the same of what the reader found in a message m: of a body the fields of 000, without what the reader keeps beside them for the value rules
+abbrev pub foundStructureNumbers : Urb → List ℕ
+foundStructureNumbers (urb.SelectConfiguration b) = b .flag ∷ b .count ∷ []
+foundStructureNumbers (urb.SelectInterface b) = b .handle ∷ []
+foundStructureNumbers urb.GetCurrentFrameNumber = []
+foundStructureNumbers (urb.PipeRequest b) = b .pipe ∷ []
+foundStructureNumbers (urb.BulkOrInterruptTransfer b) = b .pipe ∷ b .flags ∷ []
+foundStructureNumbers (urb.ControlTransfer b) = b .pipe ∷ b .flags ∷ []
+foundStructureNumbers (urb.IsochTransfer b) = b .pipe ∷ b .flags ∷ b .start ∷ b .errors ∷ []
+foundStructureNumbers urb.Unknown = []
+
+abbrev pub foundUrbNumbers : TsUrb → List ℕ
+foundUrbNumbers t = t .function ∷ t .request .0 ∷ bit (t .noack) ∷ foundStructureNumbers (t .urb)
+
+-- an interface and the two bits above it are one field
+abbrev pub whole : InterfaceId → ℕ → ℕ
+whole id top = id .0 + 0x4000_0000 * top
+
+abbrev pub foundCallback : Known → ℕ → List ℕ
+foundCallback known.Nothing top = []
+foundCallback (known.Is id) top = whole id top ∷ []
+
+-- i is the interface of the header
+abbrev pub foundNumbers : ℕ → Body → List ℕ
+foundNumbers i (capabilityRequestBody b) = b .capability ∷ []
+foundNumbers i (capabilityResponseBody b) = b .capability ∷ b .result ∷ []
+foundNumbers i (channelCreatedBody b) = b .major ∷ b .minor ∷ b .capabilities ∷ []
+foundNumbers i addVirtualChannelBody = []
+foundNumbers i (addDeviceBody b) = b .count ∷ whole (b .device) (b .top) ∷ b .capabilities .size ∷ b .capabilities .bus ∷ b .capabilities .usbdi ∷ b .capabilities .usb ∷ b .capabilities .host ∷ b .capabilities .speed ∷ b .capabilities .jitter ∷ []
+foundNumbers i (cancelRequestBody b) = i ∷ b .request .0 ∷ []
+foundNumbers i (registerRequestCallbackBody b) = i ∷ b .count ∷ foundCallback (b .callback) (b .top)
+foundNumbers i (ioControlBody b) = i ∷ b .code ∷ b .size ∷ b .request .0 ∷ []
+foundNumbers i (transferInRequestBody b) = i ∷ b .size ∷ foundUrbNumbers (b .urb)
+foundNumbers i (transferOutRequestBody b) = i ∷ foundUrbNumbers (b .urb)
+foundNumbers i (retractDeviceBody b) = i ∷ b .reason ∷ []
+foundNumbers i (ioControlCompletionBody b) = i ∷ b .request .0 ∷ b .result ∷ b .information ∷ []
+foundNumbers i (urbCompletionBody b) = i ∷ b .request .0 ∷ b .urb .status ∷ b .result ∷ []
+foundNumbers i (urbCompletionNoDataBody b) = i ∷ b .request .0 ∷ b .urb .status ∷ b .result ∷ b .size ∷ []
+
+abbrev pub foundStructureParts : List ℕ → Urb → List (List ℕ)
+foundStructureParts m (urb.SelectConfiguration b) = listBytes m (b .interfaces) ∷ cut m (b .descriptor .part) ∷ []
+foundStructureParts m (urb.SelectInterface b) = listBytes m (b .interface) ∷ []
+foundStructureParts m urb.GetCurrentFrameNumber = []
+foundStructureParts m (urb.PipeRequest b) = []
+foundStructureParts m (urb.BulkOrInterruptTransfer b) = []
+foundStructureParts m (urb.ControlTransfer b) = cut m (b .setup) ∷ []
+foundStructureParts m (urb.IsochTransfer b) = cut m (b .list) ∷ []
+foundStructureParts m urb.Unknown = []
+
+abbrev pub foundParts : List ℕ → Body → List (List ℕ)
+foundParts m (capabilityRequestBody b) = []
+foundParts m (capabilityResponseBody b) = []
+foundParts m (channelCreatedBody b) = []
+foundParts m addVirtualChannelBody = []
+foundParts m (addDeviceBody b) = cut m (b .instance .units) ∷ cut m (b .hardware .units) ∷ cut m (b .compatible .units) ∷ cut m (b .container .units) ∷ []
+foundParts m (cancelRequestBody b) = []
+foundParts m (registerRequestCallbackBody b) = []
+foundParts m (ioControlBody b) = cut m (b .input) ∷ []
+foundParts m (transferInRequestBody b) = foundStructureParts m (b .urb .urb)
+foundParts m (transferOutRequestBody b) = cut m (b .output) ∷ foundStructureParts m (b .urb .urb)
+foundParts m (retractDeviceBody b) = []
+foundParts m (ioControlCompletionBody b) = cut m (b .output) ∷ []
+foundParts m (urbCompletionBody b) = cut m (b .urb .rest) ∷ cut m (b .output) ∷ []
+foundParts m (urbCompletionNoDataBody b) = cut m (b .urb .rest) ∷ []
+
+-- in what is written, w, the reader of the kind finds a body that no value rule refuses, and whose numbers and parts, and the MessageId before it, are those that were given
 pub record ReadBack (id : MessageId) (f : Fields) (s : List ℕ) (w : List ℕ) : Type 0 where
-  pub asks : asksSome (askedOf (kindOf f) w) ≡ true
+  pub body : Body
+  pub reads : readingOf (kindOf f) w ≡ Fits body
+  pub asks : asksSome (asksWith body) ≡ true
   pub message : messageIn (wordAt w 4) ≡ id
-  pub numbers : numbersOf (fieldsIn (kindOf f) w) ≡ numbersOf f
-  pub parts : partsOf w (fieldsIn (kindOf f) w) ≡ partsOf s f
+  pub numbers : foundNumbers (interfaceIn (wordAt w 0) .0) body ≡ numbersOf f
+  pub parts : foundParts w body ≡ partsOf s f
 
 -- the side that sends a message
 abbrev pub sideOf : Fields → ℕ
