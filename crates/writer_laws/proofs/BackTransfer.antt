@@ -78,7 +78,7 @@ use Rattle.writer_laws.specs.Layout.{Bytes}
 use Rattle.writer_laws.specs.Places.{Places}
 use Rattle.writer_laws.specs.Rebuilt.{asksSome}
 use Rattle.writer_laws.specs.ReadBack.{Wide32, bit, numbersOf, partsOf, structureNumbers, structureParts}
-use Rattle.writer_laws.proofs.Places.{fits-length, places}
+use Rattle.writer_laws.proofs.Places.{encode-is-bytes, fits-length, places}
 use Rattle.writer_laws.proofs.Rebuilt.{both, refused}
 use Rattle.writer_laws.proofs.RebuiltDevice.{split}
 use Rattle.writer_laws.proofs.Walks.{along, half-take, word-take}
@@ -202,11 +202,11 @@ pub record Kept (w s : List ℕ) (t : TsUrbFields) (size : ℕ) (run : Part) (x 
   pub last : wordAt w (16 + structureSize (t .structure)) ≡ size
   pub output : pieces.cut w (record { start = 16 + structureSize (t .structure) + 4; size = run .size }) ≡ pieces.cut s run
 
-kept : (w s : List ℕ) (t : TsUrbFields) (size : ℕ) (output : Part) (x : Urb) → length w ≤ 65535 → statedOf s (t .function) (t .structure) ≡ Is x → t .request .0 < 0x8000_0000 → size < 4294967296 → ((j : ℕ) → getD (structureNumbers (t .structure)) j 0 < 4294967296)
+kept : (w s : List ℕ) (t : TsUrbFields) (size : ℕ) (output : Part) (x : Urb) → Bytes w → Bytes s → length w ≤ 65535 → statedOf s (t .function) (t .structure) ≡ Is x → t .request .0 < 0x8000_0000 → size < 4294967296 → ((j : ℕ) → getD (structureNumbers (t .structure)) j 0 < 4294967296)
     → Places w s 12 (Word (structureSize (t .structure)) ∷ Word (structureSize (t .structure) + 65536 * t .function) ∷ Word (requestWord (t .request) (t .noack)) ∷ (structurePieces (t .structure) ++ (Word size ∷ Run output ∷ [])))
     → Kept w s t size output x
 unfolding tsUrbOf
-kept w s t size output x fits e r small narrow p =
+kept w s t size output x bw bs fits e r small narrow p =
     let c = structureSize (t .structure) in
     let q = stated-rows s (t .function) (t .structure) x e in
     let sk = subst (λ k. Places w s k (Word size ∷ Run output ∷ [])) (structure-sizes (t .structure) (q .1)) (skipped w s 24 (structurePieces (t .structure)) (Word size ∷ Run output ∷ []) (p .1 .1 .1)) in
@@ -220,7 +220,7 @@ kept w s t size output x fits e r small narrow p =
     let h16 : halfAt u 16 ≡ c = half-take w (16 + c) 16 (shorter c (eight (t .structure)) 18 (omega arith)) ∙ (e16 .1 ∙ low c (t .function) c16) in
     let h18 : halfAt u 18 ≡ t .function = half-take w (16 + c) 18 (shorter c (eight (t .structure)) 20 (omega arith)) ∙ (e16 .2 ∙ high c (t .function) c16) in
     let k = request-kept (t .request) (t .noack) (wordAt u 20) r (word-take w (16 + c) 20 (shorter c (eight (t .structure)) 24 (omega arith)) ∙ e20) in
-    let b = structure-back w s c there (t .function) (t .structure) x (Word size ∷ Run output ∷ []) e refl (p .1 .1 .1) narrow in
+    let b = structure-back w s c there bw bs (t .function) (t .structure) x (Word size ∷ Run output ∷ []) e refl (p .1 .1 .1) narrow in
     let lu : left u 16 ≡ c = left-of (length u) c (length-take-le (16 + c) w there) in
     record {
       found = b .found;
@@ -311,7 +311,7 @@ in-back id i b s bytes n t given wide =
     let h = p .0 (first-below i b30) .0 in
     let m = p .1 .0 (wide .0) .0 in
     let f = p .1 .1 .0 (omega arith) .0 in
-    let q = kept w s (b .urb) (b .size) emptyPart (x .0) (fits-length s _ n t) (x .1) (ltb-true (b .urb .request .0) 0x8000_0000 (g1 .0)) (wide .1 1) (λ j. wide .1 (suc (suc (suc (suc (suc j)))))) (p .1 .1 .1) in
+    let q = kept w s (b .urb) (b .size) emptyPart (x .0) (encode-is-bytes s bytes _) bytes (fits-length s _ n t) (x .1) (ltb-true (b .urb .request .0) 0x8000_0000 (g1 .0)) (wide .1 1) (λ j. wide .1 (suc (suc (suc (suc (suc j)))))) (p .1 .1 .1) in
     let c = structureSize (b .urb .structure) in
     let z : wordAt w (16 + wordAt w 12) ≡ b .size = ap (λ y. wordAt w (16 + y)) (q .cb) ∙ q .last in
     let a1 = split (not (b .urb .noack)) (urbAllowed (x .0) && cond (onlyIn (x .0)) (eqb (b .size) 0) true) (x .2) in
@@ -347,7 +347,7 @@ out-back id i b s bytes n t given wide =
     let m = p .1 .0 (wide .0) .0 in
     let f = p .1 .1 .0 (omega arith) .0 in
     let d = b .output .size in
-    let q = kept w s (b .urb) d (b .output) (x .0) (fits-length s _ n t) (x .1) (ltb-true (b .urb .request .0) 0x8000_0000 (g1 .0)) (part-small s (b .output) (g2 .0)) (λ j. wide .1 (suc (suc (suc (suc j))))) (p .1 .1 .1) in
+    let q = kept w s (b .urb) d (b .output) (x .0) (encode-is-bytes s bytes _) bytes (fits-length s _ n t) (x .1) (ltb-true (b .urb .request .0) 0x8000_0000 (g1 .0)) (part-small s (b .output) (g2 .0)) (λ j. wide .1 (suc (suc (suc (suc j))))) (p .1 .1 .1) in
     let c = structureSize (b .urb .structure) in
     let z : wordAt w (16 + wordAt w 12) ≡ d = ap (λ y. wordAt w (16 + y)) (q .cb) ∙ q .last in
     let a1 = split (urbAllowed (x .0)) (not (onlyIn (x .0)) && cond (b .urb .noack) (mayNoAck (x .0)) true) (x .2) in

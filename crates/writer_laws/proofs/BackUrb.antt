@@ -47,9 +47,10 @@ use Rattle.writer.specs.declared.ts_urb.Structure.the-variants as structure
 use Rattle.writer.specs.declared.ts_urb.Stated.the-variants as stated
 use Rattle.writer.specs.declared.ts_urb.Listed.{Listed}
 use Rattle.writer.proofs.Lies.{lies}
-use Rattle.writer_laws.specs.Layout.{Bytes}
+use Rattle.writer_laws.specs.Layout.{Bytes, clearedRows}
 use Rattle.writer_laws.specs.Places.{Places, RowsStand}
 use Rattle.writer_laws.specs.ReadBack.{structureNumbers, structureParts}
+use Rattle.writer_laws.proofs.Cleared.{rows-cleared}
 use Rattle.writer_laws.proofs.Rebuilt.{refused}
 use Rattle.writer_laws.proofs.Walks.{along, half-take, word-take}
 use Rattle.writer_laws.proofs.Back.{agrees-there, atLeast-there, field-there, same}
@@ -83,7 +84,7 @@ fills end (walk.End last k) pipes e = go (eqb last end) refl e
     go false f e = absurd (omega (arith, (let z : _≡_ {A = ℕ} 0 1 = cc in z)))
 fills end (walk.Fails fault) pipes e = absurd (omega (arith, (let z : _≡_ {A = ℕ} 0 1 = cc in z)))
 
-module _ (w s : List ℕ) (c : ℕ) (there : 16 + c ≤ length w) where
+module _ (w s : List ℕ) (c : ℕ) (there : 16 + c ≤ length w) (bw : Bytes w) (bs : Bytes s) where
   abbrev u : List ℕ
   u = take (16 + c) w
 
@@ -160,6 +161,16 @@ module _ (w s : List ℕ) (c : ℕ) (there : 16 + c ≤ length w) where
       let d : p .size ≡ 12 * v .0 = omega (arith, v .1) in
       (subst (λ k. interfacesOf u count 0 at ≡ walk.End (at + k) pipes) (sym d) (v .2), v .0, d)
 
+  -- an interface list by its bytes with its padding 0, where it was given and where it is written
+  list-same : (p : Part) (at : ℕ) → partAllowed s p ≡ true → at + p .size ≤ 16 + c → pieces.interfacesOf w (p .size / 12) 0 at ≡ pieces.interfacesOf s (p .size / 12) 0 (p .start) → clearedRows w (p .size / 12) 0 at ≡ clearedRows s (p .size / 12) 0 (p .start)
+  list-same p at a h e = sym (rows-cleared w bw (p .size / 12) 0 at (within (p .size) at (length w) (fits (at + p .size) (length w) h))) ∙ (e ∙ rows-cleared s bs (p .size / 12) 0 (p .start) (within (p .size) (p .start) (length s) (lies s p a .0)))
+    where
+      within : (n at l : ℕ) → at + n ≤ l → at + 12 * (n / 12) ≤ l
+      within n at l h = omega arith
+
+      fits : (x l : ℕ) → x ≤ 16 + c → x ≤ length w
+      fits x l h = omega (arith, there)
+
   interface-back : (b : SelectInterfaceFields) (pipes : ℕ) → c ≡ 12 + b .interface .size → wordAt w 24 ≡ b .handle → listedOf s (b .interface) 1 ≡ listed.Pipes pipes → partAllowed s (b .interface) ≡ true
       → pieces.interfacesOf w (b .interface .size / 12) 0 28 ≡ pieces.interfacesOf s (b .interface .size / 12) 0 (b .interface .start) → RowsStand w s 28 (b .interface .start) (b .interface .size / 12)
       → StructureBack 1 (structure.SelectInterface b) (urb.SelectInterface (record { handle = b .handle; interface = b .interface; pipes = pipes }))
@@ -175,7 +186,7 @@ module _ (w s : List ℕ) (c : ℕ) (there : 16 + c ≤ length w) where
         only = refl;
         noack = refl;
         numbers = same (word-u 24 (omega arith) ∙ p) refl;
-        parts = same (ap (λ y. pieces.interfacesOf w (y / 12) 0 28) z ∙ i) refl;
+        parts = same (ap (λ y. clearedRows w (y / 12) 0 28) z ∙ list-same (b .interface) 28 a (omega arith) i) refl;
       }
 
   -- what a descriptor of so many bytes is read as, behind the list
@@ -227,7 +238,7 @@ module _ (w s : List ℕ) (c : ℕ) (there : 16 + c ≤ length w) where
         only = refl;
         noack = refl;
         numbers = same fu (same cu refl);
-        parts = same (ap (λ y. pieces.interfacesOf w (y / 12) 0 32) z ∙ i) (same (ap (pieces.cut w) (d .2) ∙ kd) refl);
+        parts = same (ap (λ y. clearedRows w (y / 12) 0 32) z ∙ list-same (b .interfaces) 32 a (omega arith) i) (same (ap (pieces.cut w) (d .2) ∙ kd) refl);
       }
     where
       rows : (y r : ℕ) → y ≡ 12 * r → y / 12 * 12 ≡ y

@@ -96,7 +96,7 @@ module _ (m : List ℕ) (bytes : Bytes m) where
       go true = (interface-cleared at h, refl)
       go false = (pipe-cleared at h, refl)
 
-  rows-cleared : (n pipes at : ℕ) → at + 12 * n ≤ length m → interfacesOf m n pipes at ≡ clearedRows m n pipes at
+  pub rows-cleared : (n pipes at : ℕ) → at + 12 * n ≤ length m → interfacesOf m n pipes at ≡ clearedRows m n pipes at
   unfolding interfacesOf clearedRows
   rows-cleared zero pipes at h = refl
   rows-cleared (suc n) pipes at h =

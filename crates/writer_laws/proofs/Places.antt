@@ -6,7 +6,7 @@ use mathlib.Core.Path.{_≡_, refl, ap, sym, subst, _∙_}
 use mathlib.Core.List.{List, [], _∷_, _++_, append-assoc, append-nil}
 use mathlib.Core.Bool.{Bool, true, false, cond}
 use lib.ListN.{length, take, drop, getD, length-append}
-use lib.Seq.{take-append-seam, drop-append-seam, getD-append-add}
+use lib.Seq.{take-append-seam, drop-append-seam, getD-append-add, getD-drop}
 use lib.Dec.{eqb, ltb, leb}
 use Rattle.words.specs.Words.{byteAt, halfAt, wordAt}
 use Rattle.words.specs.Written.{wordBytes}
@@ -159,3 +159,49 @@ total-below n sum m (p ∷ ps) h t = let q = total-first n sum p ps m t in total
 
 pub fits-length : (s : List ℕ) (ps : List Piece) (m : ℕ) → totalFrom (length s) 0 ps ≡ total.Fits m → length (encode s ps) ≤ 65535
 fits-length s ps m t = omega (arith, encode-length s ps 0 m t, total-below (length s) 0 m ps (omega arith) t)
+
+-- what is written is bytes
+bytes-append : (xs ys : List ℕ) → Bytes xs → Bytes ys → Bytes (xs ++ ys)
+bytes-append [] ys bx by i = by i
+bytes-append (x ∷ xs) ys bx by zero = bx zero
+bytes-append (x ∷ xs) ys bx by (suc i) = bytes-append xs ys (λ j. bx (suc j)) by i
+
+none : (i : ℕ) → byteAt [] i < 256
+none i = omega arith
+
+below-256 : (n : ℕ) → n % 256 < 256
+below-256 n = omega arith
+
+word-is-bytes : (n : ℕ) → Bytes (wordBytes n)
+word-is-bytes n zero = below-256 n
+word-is-bytes n (suc zero) = below-256 (n / 256)
+word-is-bytes n (suc (suc zero)) = below-256 (n / 65536)
+word-is-bytes n (suc (suc (suc zero))) = below-256 (n / 16777216)
+word-is-bytes n (suc (suc (suc (suc i)))) = omega arith
+
+rows-are-bytes : (s : List ℕ) (n pipes at : ℕ) → Bytes (interfacesOf s n pipes at)
+unfolding interfacesOf
+rows-are-bytes s zero pipes at = λ i. none i
+rows-are-bytes s (suc n) pipes at =
+    let r = rowOf s at pipes in
+    bytes-append (rowBytes r) (interfacesOf s n (r .pipes) (at + 12)) (bytes-append (wordBytes (r .first)) (wordBytes (r .second) ++ wordBytes (r .third)) (word-is-bytes (r .first)) (bytes-append (wordBytes (r .second)) (wordBytes (r .third)) (word-is-bytes (r .second)) (word-is-bytes (r .third)))) (rows-are-bytes s n (r .pipes) (at + 12))
+
+take-bytes : (n : ℕ) (xs : List ℕ) → Bytes xs → Bytes (take n xs)
+take-bytes zero xs b i = omega arith
+take-bytes (suc n) [] b i = b i
+take-bytes (suc n) (x ∷ xs) b zero = b zero
+take-bytes (suc n) (x ∷ xs) b (suc i) = take-bytes n xs (λ j. b (suc j)) i
+
+cut-is-bytes : (s : List ℕ) (p : Part) → Bytes s → Bytes (cut s p)
+cut-is-bytes s p b = take-bytes (p .size) (drop (p .start) s) (λ i. subst (λ x. x < 256) (sym (getD-drop (p .start) s i 0)) (b (p .start + i)))
+
+piece-is-bytes : (s : List ℕ) → Bytes s → (p : Piece) → Bytes (bytesOf s p)
+piece-is-bytes s b Nothing = λ i. none i
+piece-is-bytes s b (Word n) = word-is-bytes n
+piece-is-bytes s b (Run p) = cut-is-bytes s p b
+piece-is-bytes s b (Interfaces p) = rows-are-bytes s (p .size / 12) 0 (p .start)
+
+pub encode-is-bytes : (s : List ℕ) → Bytes s → (ps : List Piece) → Bytes (encode s ps)
+unfolding encode
+encode-is-bytes s b [] = λ i. none i
+encode-is-bytes s b (p ∷ ps) = bytes-append (bytesOf s p) (encode s ps) (piece-is-bytes s b p) (encode-is-bytes s b ps)

@@ -16,7 +16,7 @@ use Rattle.urb.specs.declared.ts_urb.Urb.{Urb}
 use Rattle.urb.specs.declared.ts_urb.Urb.the-variants as urb
 use Rattle.wire.specs.Message.{asksWith}
 use Rattle.wire.specs.Reading.{Body, Fits, capabilityRequestBody, capabilityResponseBody, channelCreatedBody, addVirtualChannelBody, addDeviceBody, cancelRequestBody, registerRequestCallbackBody, ioControlBody, transferInRequestBody, transferOutRequestBody, retractDeviceBody, ioControlCompletionBody, urbCompletionBody, urbCompletionNoDataBody, readingOf}
-use Rattle.pieces.specs.Pieces.{cut, interfacesOf}
+use Rattle.pieces.specs.Pieces.{cut}
 use Rattle.writer.specs.declared.register_request_callback.RequestCompletion.{RequestCompletion}
 use Rattle.writer.specs.declared.register_request_callback.RequestCompletion.the-variants as completion
 use Rattle.writer.specs.declared.ts_urb.Structure.{Structure}
@@ -30,6 +30,7 @@ use Rattle.header.specs.declared.ids.Known.the-variants as known
 use Rattle.answers.specs.Phase.{phasesOf}
 use Rattle.kinds.specs.Kinds.{client, server}
 use Rattle.channel.specs.declared.channel.Channel.{Channel}
+use Rattle.writer_laws.specs.Layout.{clearedRows}
 use Rattle.writer_laws.specs.Rebuilt.{asksSome}
 
 -- the kind of a message that fields are of
@@ -91,7 +92,7 @@ numbersOf (UrbCompletionNoData i b) = i ∷ b .urb .request .0 ∷ b .urb .statu
 
 -- an interface list by its bytes, with its padding 0, since that is no field
 abbrev pub listBytes : List ℕ → Part → List ℕ
-listBytes s p = interfacesOf s (p .size / 12) 0 (p .start)
+listBytes s p = clearedRows s (p .size / 12) 0 (p .start)
 
 abbrev pub structureParts : List ℕ → Structure → List (List ℕ)
 structureParts s (structure.SelectConfiguration b) = listBytes s (b .interfaces) ∷ cut s (b .descriptor) ∷ []
