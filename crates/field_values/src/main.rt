@@ -17,10 +17,10 @@ fn main() {
     calls(&mut lent, &mut room);
 }
 
-// Nothing says that an input ends, so the calls are counted up to a number that no input reaches.
+// No input has as many calls as a number of 64 bits counts.
 fn calls(lent: &mut [u8], room: &mut [u8]) {
     let mut number: u64 = 0;
-    while number < 1000000 && call(lent, room) {
+    while number < 0xFFFF_FFFF_FFFF_FFFF && call(lent, room) {
         number += 1;
     }
 }

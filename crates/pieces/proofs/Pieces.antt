@@ -14,7 +14,7 @@ use Rattle.words.specs.Words.{halfAt, wordAt}
 use Rattle.words.specs.Written.{written, wordBytes}
 use Rattle.words.specs.declared.layout.Part.{Part}
 use Rattle.words.proofs.Written.{written-on, written-whole}
-use Rattle.pieces.specs.Pieces.{bufferOf, bytesOf, cut, encode, interfacesOf, liesIn, pieceLies, rowBytes, rowOf, sizeOf, totalFrom, writtenOf}
+use Rattle.pieces.specs.Pieces.{bufferOf, bytesOf, cut, encode, rowsFrom, liesIn, pieceLies, rowBytes, rowOf, sizeOf, totalFrom, writtenOf}
 use Rattle.pieces.specs.declared.piece.Piece.{Piece}
 use Rattle.pieces.specs.declared.piece.Piece.the-variants as piece
 use Rattle.pieces.specs.declared.piece.Row.{Row}
@@ -34,8 +34,8 @@ word-length n = refl
 pub row-length : (r : Row) → length (rowBytes r) ≡ 12
 row-length r = refl
 
-pub interfaces-length : (s : List ℕ) (n pipes at : ℕ) → length (interfacesOf s n pipes at) ≡ 12 * n
-unfolding interfacesOf
+pub interfaces-length : (s : List ℕ) (n pipes at : ℕ) → length (rowsFrom s n pipes at) ≡ 12 * n
+unfolding rowsFrom
 interfaces-length s zero pipes at = refl
 interfaces-length s (suc n) pipes at = let e = interfaces-length s n (rowOf s at pipes .pipes) (at + 12) in omega arith
 
@@ -129,23 +129,23 @@ pub run-end : (s buf w : List ℕ) (start n at i : ℕ) → n ≤ i → written 
 unfolding written
 run-end s buf w start n at i h inv = let e : n - i ≡ 0 = omega arith in rw (← inv, e)
 
-pub rows-start : (s buf : List ℕ) (start rows at : ℕ) → written buf (at + 12 * 0) (interfacesOf s (rows - 0) 0 (start + 12 * 0)) ≡ written buf at (interfacesOf s rows 0 start)
+pub rows-start : (s buf : List ℕ) (start rows at : ℕ) → written buf (at + 12 * 0) (rowsFrom s (rows - 0) 0 (start + 12 * 0)) ≡ written buf at (rowsFrom s rows 0 start)
 rows-start s buf start rows at =
     let e : at + 0 ≡ at = omega arith in
     let f : rows - 0 ≡ rows = omega arith in
     let g : start + 0 ≡ start = omega arith in
     rw (e, f, g)
 
-pub rows-again : (s buf mid w : List ℕ) (r : Row) (start rows at pipes i : ℕ) → i < rows → r ≡ rowOf s (start + 12 * i) pipes → mid ≡ written buf (at + 12 * i) (rowBytes r) → written buf (at + 12 * i) (interfacesOf s (rows - i) pipes (start + 12 * i)) ≡ w
-    → written mid (at + 12 * (i + 1)) (interfacesOf s (rows - (i + 1)) (r .pipes) (start + 12 * (i + 1))) ≡ w
-unfolding interfacesOf
+pub rows-again : (s buf mid w : List ℕ) (r : Row) (start rows at pipes i : ℕ) → i < rows → r ≡ rowOf s (start + 12 * i) pipes → mid ≡ written buf (at + 12 * i) (rowBytes r) → written buf (at + 12 * i) (rowsFrom s (rows - i) pipes (start + 12 * i)) ≡ w
+    → written mid (at + 12 * (i + 1)) (rowsFrom s (rows - (i + 1)) (r .pipes) (start + 12 * (i + 1))) ≡ w
+unfolding rowsFrom
 rows-again s buf mid w r start rows at pipes i h q m inv =
     let e : rows - i ≡ suc (rows - (i + 1)) = omega arith in
     let f : start + 12 * i + 12 ≡ start + 12 * (i + 1) = omega arith in
     rw (← inv, e, f, ← q) (written-on buf mid (at + 12 * i) (at + 12 * (i + 1)) (rowBytes r) _ (omega arith) m)
 
-pub rows-end : (s buf w : List ℕ) (start rows at pipes i : ℕ) → rows ≤ i → written buf (at + 12 * i) (interfacesOf s (rows - i) pipes (start + 12 * i)) ≡ w → buf ≡ w
-unfolding interfacesOf written
+pub rows-end : (s buf w : List ℕ) (start rows at pipes i : ℕ) → rows ≤ i → written buf (at + 12 * i) (rowsFrom s (rows - i) pipes (start + 12 * i)) ≡ w → buf ≡ w
+unfolding rowsFrom written
 rows-end s buf w start rows at pipes i h inv = let e : rows - i ≡ 0 = omega arith in rw (← inv, e)
 
 encode-step : (s : List ℕ) (ps : List Piece) (i : ℕ) → i < length ps → encode s (drop i ps) ≡ bytesOf s (getD ps i piece.Nothing) ++ encode s (drop (i + 1) ps)

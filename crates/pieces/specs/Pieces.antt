@@ -41,16 +41,16 @@ abbrev pub rowBytes : Row → List ℕ
 rowBytes r = wordBytes (r .first) ++ (wordBytes (r .second) ++ wordBytes (r .third))
 
 -- rows from a place on, where so many pipes are to come
-unfoldable pub interfacesOf : List ℕ → ℕ → ℕ → ℕ → List ℕ
-interfacesOf s zero pipes at = []
-interfacesOf s (suc n) pipes at = rowBytes (rowOf s at pipes) ++ interfacesOf s n (rowOf s at pipes .pipes) (at + 12)
+unfoldable pub rowsFrom : List ℕ → ℕ → ℕ → ℕ → List ℕ
+rowsFrom s zero pipes at = []
+rowsFrom s (suc n) pipes at = rowBytes (rowOf s at pipes) ++ rowsFrom s n (rowOf s at pipes .pipes) (at + 12)
 
 -- s are the lent bytes
 abbrev pub bytesOf : List ℕ → Piece → List ℕ
 bytesOf s piece.Nothing = []
 bytesOf s (piece.Word n) = wordBytes n
 bytesOf s (piece.Run p) = cut s p
-bytesOf s (piece.Interfaces p) = interfacesOf s (p .size / 12) 0 (p .start)
+bytesOf s (piece.Interfaces p) = rowsFrom s (p .size / 12) 0 (p .start)
 
 unfoldable pub encode : List ℕ → List Piece → List ℕ
 encode s [] = []

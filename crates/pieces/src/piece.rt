@@ -9,11 +9,12 @@ ghost use mathlib.Core.Bool.{true};
 ghost use Prim.Native.Nat.{_+_, _*_, _≤_};
 ghost use lib.ListN.{length, drop};
 ghost use Rattle.words.specs.Written.{written, wordBytes};
-ghost use Rattle.pieces.specs.Pieces.{bufferOf, bytesOf, cut, encode, interfacesOf, liesIn, pieceLies, rowBytes, rowOf, sizeOf, totalFrom, writtenNumber, writtenOf};
+ghost use Rattle.pieces.specs.Pieces.{bufferOf, bytesOf, cut, encode, rowsFrom, liesIn, pieceLies, rowBytes, rowOf, sizeOf, totalFrom, writtenNumber, writtenOf};
 ghost use Rattle.pieces.specs.declared.piece.Total.the-variants as total;
 
 pub enum Piece {
     Nothing,
+    // the low 32 bits of a number
     Word(usize),
     // a part of the lent bytes as it stands there
     Run(Part),
@@ -178,7 +179,7 @@ fn put_row(row: Row, buf: &mut [u8], at: usize)
 fn put_interfaces(lent: &[u8], start: usize, rows: usize, buf: &mut [u8], at: usize)
     requires { ⌜ start + 12 * rows ≤ length (now lent) ⌝ }
     requires { ⌜ at + 12 * rows ≤ length (now buf) ⌝ }
-    ensures { λ r. ⌜ now (buf .exit) ≡ written (now (buf .entry)) at (interfacesOf (now (lent .entry)) rows 0 start) ⌝ }
+    ensures { λ r. ⌜ now (buf .exit) ≡ written (now (buf .entry)) at (rowsFrom (now (lent .entry)) rows 0 start) ⌝ }
 {
     let mut pipes: u32 = 0;
     let mut i: usize = 0;

@@ -162,7 +162,7 @@ module _ (w s : List ℕ) (c : ℕ) (there : 16 + c ≤ length w) (bw : Bytes w)
       (subst (λ k. interfacesOf u count 0 at ≡ walk.End (at + k) pipes) (sym d) (v .2), v .0, d)
 
   -- an interface list by its bytes with its padding 0, where it was given and where it is written
-  list-same : (p : Part) (at : ℕ) → partAllowed s p ≡ true → at + p .size ≤ 16 + c → pieces.interfacesOf w (p .size / 12) 0 at ≡ pieces.interfacesOf s (p .size / 12) 0 (p .start) → clearedRows w (p .size / 12) 0 at ≡ clearedRows s (p .size / 12) 0 (p .start)
+  list-same : (p : Part) (at : ℕ) → partAllowed s p ≡ true → at + p .size ≤ 16 + c → pieces.rowsFrom w (p .size / 12) 0 at ≡ pieces.rowsFrom s (p .size / 12) 0 (p .start) → clearedRows w (p .size / 12) 0 at ≡ clearedRows s (p .size / 12) 0 (p .start)
   list-same p at a h e = sym (rows-cleared w bw (p .size / 12) 0 at (within (p .size) at (length w) (fits (at + p .size) (length w) h))) ∙ (e ∙ rows-cleared s bs (p .size / 12) 0 (p .start) (within (p .size) (p .start) (length s) (lies s p a .0)))
     where
       within : (n at l : ℕ) → at + n ≤ l → at + 12 * (n / 12) ≤ l
@@ -172,7 +172,7 @@ module _ (w s : List ℕ) (c : ℕ) (there : 16 + c ≤ length w) (bw : Bytes w)
       fits x l h = omega (arith, there)
 
   interface-back : (b : SelectInterfaceFields) (pipes : ℕ) → c ≡ 12 + b .interface .size → wordAt w 24 ≡ b .handle → listedOf s (b .interface) 1 ≡ listed.Pipes pipes → partAllowed s (b .interface) ≡ true
-      → pieces.interfacesOf w (b .interface .size / 12) 0 28 ≡ pieces.interfacesOf s (b .interface .size / 12) 0 (b .interface .start) → RowsStand w s 28 (b .interface .start) (b .interface .size / 12)
+      → pieces.rowsFrom w (b .interface .size / 12) 0 28 ≡ pieces.rowsFrom s (b .interface .size / 12) 0 (b .interface .start) → RowsStand w s 28 (b .interface .start) (b .interface .size / 12)
       → StructureBack 1 (structure.SelectInterface b) (urb.SelectInterface (record { handle = b .handle; interface = b .interface; pipes = pipes }))
   unfolding structureOf selectInterfaceOf
   interface-back b pipes e p l a i r =
@@ -217,7 +217,7 @@ module _ (w s : List ℕ) (c : ℕ) (there : 16 + c ≤ length w) (bw : Bytes w)
 
   configuration-back : (b : SelectConfigurationFields) (pipes : ℕ) → c ≡ 16 + b .interfaces .size + b .descriptor .size → byteAt w 24 ≡ b .flag → wordAt w 28 ≡ b .count
       → listedOf s (b .interfaces) (b .count) ≡ listed.Pipes pipes → partAllowed s (b .interfaces) ≡ true → descriptorSized (b .flag) (b .descriptor .size) ≡ true
-      → pieces.interfacesOf w (b .interfaces .size / 12) 0 32 ≡ pieces.interfacesOf s (b .interfaces .size / 12) 0 (b .interfaces .start) → RowsStand w s 32 (b .interfaces .start) (b .interfaces .size / 12)
+      → pieces.rowsFrom w (b .interfaces .size / 12) 0 32 ≡ pieces.rowsFrom s (b .interfaces .size / 12) 0 (b .interfaces .start) → RowsStand w s 32 (b .interfaces .start) (b .interfaces .size / 12)
       → pieces.cut w (record { start = 32 + b .interfaces .size / 12 * 12; size = b .descriptor .size }) ≡ pieces.cut s (b .descriptor)
       → StructureBack 0 (structure.SelectConfiguration b) (urb.SelectConfiguration (record { flag = b .flag; count = b .count; interfaces = b .interfaces; pipes = pipes; descriptor = record { part = b .descriptor; first = byteAt (drop (b .descriptor .start) s) 0; second = byteAt (drop (b .descriptor .start) s) 1 } }))
   unfolding structureOf selectConfigurationOf configurationOf

@@ -12,7 +12,7 @@ use borrow.Author.Tests.{le-ltb, le-leb, lt-leb, lt-ltb}
 use Rattle.words.specs.Words.{byteAt, halfAt, wordAt}
 use Rattle.words.specs.Written.{wordBytes}
 use Rattle.words.specs.declared.layout.Part.{Part}
-use Rattle.pieces.specs.Pieces.{bytesOf, cut, encode, interfacesOf, liesIn, pieceLies, rowBytes, rowOf, sizeOf, totalFrom}
+use Rattle.pieces.specs.Pieces.{bytesOf, cut, encode, rowsFrom, liesIn, pieceLies, rowBytes, rowOf, sizeOf, totalFrom}
 use Rattle.pieces.specs.declared.piece.Piece.{Piece}
 use Rattle.pieces.specs.declared.piece.Piece.the-variants.{Nothing, Word, Run, Interfaces}
 use Rattle.pieces.specs.declared.piece.Row.{Row}
@@ -96,12 +96,12 @@ module _ (m : List ℕ) (bytes : Bytes m) where
       go true = (interface-cleared at h, refl)
       go false = (pipe-cleared at h, refl)
 
-  pub rows-cleared : (n pipes at : ℕ) → at + 12 * n ≤ length m → interfacesOf m n pipes at ≡ clearedRows m n pipes at
-  unfolding interfacesOf clearedRows
+  pub rows-cleared : (n pipes at : ℕ) → at + 12 * n ≤ length m → rowsFrom m n pipes at ≡ clearedRows m n pipes at
+  unfolding rowsFrom clearedRows
   rows-cleared zero pipes at h = refl
   rows-cleared (suc n) pipes at h =
       let r = row-cleared at pipes (omega arith) in
-      pair _ _ _ _ (r .0) (ap (λ k. interfacesOf m n k (at + 12)) (r .1) ∙ rows-cleared n (cond (eqb pipes 0) (wordAt m (at + 8)) (pipes - 1)) (at + 12) (omega arith))
+      pair _ _ _ _ (r .0) (ap (λ k. rowsFrom m n k (at + 12)) (r .1) ∙ rows-cleared n (cond (eqb pipes 0) (wordAt m (at + 8)) (pipes - 1)) (at + 12) (omega arith))
 
   field-cleared : (at : ℕ) (f : Field) → at + spanOf f ≤ length m → bytesOf m (cutAt m at f) ≡ clearedAt m at f
   field-cleared at none h = refl

@@ -11,7 +11,7 @@ use lib.Dec.{eqb, ltb, leb}
 use Rattle.words.specs.Words.{byteAt, halfAt, wordAt}
 use Rattle.words.specs.Written.{wordBytes}
 use Rattle.words.specs.declared.layout.Part.{Part}
-use Rattle.pieces.specs.Pieces.{bytesOf, cut, encode, interfacesOf, rowBytes, rowOf, sizeOf, totalFrom}
+use Rattle.pieces.specs.Pieces.{bytesOf, cut, encode, rowsFrom, rowBytes, rowOf, sizeOf, totalFrom}
 use Rattle.pieces.specs.declared.piece.Piece.{Piece}
 use Rattle.pieces.specs.declared.piece.Piece.the-variants.{Nothing, Word, Run, Interfaces}
 use Rattle.pieces.specs.declared.piece.Row.{Row}
@@ -86,8 +86,8 @@ module _ (s : List ℕ) (bytes : Bytes s) where
       go true = (word-below x, low (byteAt s x) (byteAt s (x + 1)) (byteAt s (x + 2)) (byteAt s (x + 3)) (bytes x) (bytes (x + 1)), refl)
       go false = (half-below x, low-half (byteAt s x) (byteAt s (x + 1)) (bytes x) (bytes (x + 1)), refl)
 
-  rows-stand : (n : ℕ) (pre rest w : List ℕ) (at a pipes : ℕ) → w ≡ pre ++ (interfacesOf s n pipes a ++ rest) → at ≡ length pre → RowsStand w s at a n
-  unfolding interfacesOf
+  rows-stand : (n : ℕ) (pre rest w : List ℕ) (at a pipes : ℕ) → w ≡ pre ++ (rowsFrom s n pipes a ++ rest) → at ≡ length pre → RowsStand w s at a n
+  unfolding rowsFrom
   rows-stand zero pre rest w at a pipes e l = λ j x y ex ey h. absurd (omega arith)
   rows-stand (suc n) pre rest w at a pipes e l = rows (rows-stand n (pre ++ rowBytes r) rest w (at + 12) (a + 12) (r .pipes) (e ∙ grouped) (rw (length-append, l)))
     where
@@ -95,7 +95,7 @@ module _ (s : List ℕ) (bytes : Bytes s) where
       r = rowOf s a pipes
 
       more : List ℕ
-      more = interfacesOf s n (r .pipes) (a + 12)
+      more = rowsFrom s n (r .pipes) (a + 12)
 
       grouped : pre ++ ((rowBytes r ++ more) ++ rest) ≡ (pre ++ rowBytes r) ++ (more ++ rest)
       grouped = ap (λ z. pre ++ z) (append-assoc (rowBytes r) more rest) ∙ sym (append-assoc pre (rowBytes r) (more ++ rest))
@@ -123,13 +123,13 @@ module _ (s : List ℕ) (bytes : Bytes s) where
           let x : halfAt w at ≡ halfAt s a = q .0 .1 ∙ low-half (byteAt s a) (byteAt s (a + 1)) (bytes a) (bytes (a + 1)) in
           rw (x, q .1 .0, q .2 .0)
 
-  rows-same : (n : ℕ) (pre rest w : List ℕ) (at a pipes : ℕ) → w ≡ pre ++ (interfacesOf s n pipes a ++ rest) → at ≡ length pre → interfacesOf w n pipes at ≡ interfacesOf s n pipes a
-  unfolding interfacesOf
+  rows-same : (n : ℕ) (pre rest w : List ℕ) (at a pipes : ℕ) → w ≡ pre ++ (rowsFrom s n pipes a ++ rest) → at ≡ length pre → rowsFrom w n pipes at ≡ rowsFrom s n pipes a
+  unfolding rowsFrom
   rows-same zero pre rest w at a pipes e l = refl
   rows-same (suc n) pre rest w at a pipes e l =
-      let q = row-same pre (interfacesOf s n (rowOf s a pipes .pipes) (a + 12) ++ rest) w at a pipes (e ∙ ap (λ z. pre ++ z) (append-assoc (rowBytes (rowOf s a pipes)) (interfacesOf s n (rowOf s a pipes .pipes) (a + 12)) rest)) l in
-      pair _ _ _ _ (ap rowBytes q) (ap (λ r. interfacesOf w n (r .pipes) (at + 12)) q ∙
-      rows-same n (pre ++ rowBytes (rowOf s a pipes)) rest w (at + 12) (a + 12) (rowOf s a pipes .pipes) (e ∙ (ap (λ z. pre ++ z) (append-assoc (rowBytes (rowOf s a pipes)) (interfacesOf s n (rowOf s a pipes .pipes) (a + 12)) rest) ∙ sym (append-assoc pre (rowBytes (rowOf s a pipes)) (interfacesOf s n (rowOf s a pipes .pipes) (a + 12) ++ rest)))) (rw (length-append, l)))
+      let q = row-same pre (rowsFrom s n (rowOf s a pipes .pipes) (a + 12) ++ rest) w at a pipes (e ∙ ap (λ z. pre ++ z) (append-assoc (rowBytes (rowOf s a pipes)) (rowsFrom s n (rowOf s a pipes .pipes) (a + 12)) rest)) l in
+      pair _ _ _ _ (ap rowBytes q) (ap (λ r. rowsFrom w n (r .pipes) (at + 12)) q ∙
+      rows-same n (pre ++ rowBytes (rowOf s a pipes)) rest w (at + 12) (a + 12) (rowOf s a pipes .pipes) (e ∙ (ap (λ z. pre ++ z) (append-assoc (rowBytes (rowOf s a pipes)) (rowsFrom s n (rowOf s a pipes .pipes) (a + 12)) rest) ∙ sym (append-assoc pre (rowBytes (rowOf s a pipes)) (rowsFrom s n (rowOf s a pipes .pipes) (a + 12) ++ rest)))) (rw (length-append, l)))
 
 stands : (pre s rest w : List ℕ) (at : ℕ) (p : Piece) → Bytes s → w ≡ pre ++ (bytesOf s p ++ rest) → at ≡ length pre → length (bytesOf s p) ≡ sizeOf p → Stands w s at p
 stands pre s rest w at Nothing b e l h = tt
@@ -179,12 +179,12 @@ word-is-bytes n (suc (suc zero)) = below-256 (n / 65536)
 word-is-bytes n (suc (suc (suc zero))) = below-256 (n / 16777216)
 word-is-bytes n (suc (suc (suc (suc i)))) = omega arith
 
-rows-are-bytes : (s : List ℕ) (n pipes at : ℕ) → Bytes (interfacesOf s n pipes at)
-unfolding interfacesOf
+rows-are-bytes : (s : List ℕ) (n pipes at : ℕ) → Bytes (rowsFrom s n pipes at)
+unfolding rowsFrom
 rows-are-bytes s zero pipes at = λ i. none i
 rows-are-bytes s (suc n) pipes at =
     let r = rowOf s at pipes in
-    bytes-append (rowBytes r) (interfacesOf s n (r .pipes) (at + 12)) (bytes-append (wordBytes (r .first)) (wordBytes (r .second) ++ wordBytes (r .third)) (word-is-bytes (r .first)) (bytes-append (wordBytes (r .second)) (wordBytes (r .third)) (word-is-bytes (r .second)) (word-is-bytes (r .third)))) (rows-are-bytes s n (r .pipes) (at + 12))
+    bytes-append (rowBytes r) (rowsFrom s n (r .pipes) (at + 12)) (bytes-append (wordBytes (r .first)) (wordBytes (r .second) ++ wordBytes (r .third)) (word-is-bytes (r .first)) (bytes-append (wordBytes (r .second)) (wordBytes (r .third)) (word-is-bytes (r .second)) (word-is-bytes (r .third)))) (rows-are-bytes s n (r .pipes) (at + 12))
 
 take-bytes : (n : ℕ) (xs : List ℕ) → Bytes xs → Bytes (take n xs)
 take-bytes zero xs b i = omega arith

@@ -5,7 +5,7 @@ use mathlib.Core.List.{List, [], _∷_}
 use lib.ListN.{length}
 use Rattle.words.specs.Words.{byteAt, halfAt, wordAt}
 use Rattle.words.specs.declared.layout.Part.{Part}
-use Rattle.pieces.specs.Pieces.{cut, interfacesOf, sizeOf}
+use Rattle.pieces.specs.Pieces.{cut, rowsFrom, sizeOf}
 use Rattle.pieces.specs.declared.piece.Piece.{Piece}
 use Rattle.pieces.specs.declared.piece.Piece.the-variants.{Nothing, Word, Run, Interfaces}
 
@@ -22,7 +22,7 @@ abbrev pub Stands : List ℕ → List ℕ → ℕ → Piece → Type 0
 Stands w s at Nothing = Unit {0}
 Stands w s at (Word n) = n < 4294967296 → WordStands w at n
 Stands w s at (Run p) = cut w (record { start = at; size = p .size }) ≡ cut s p
-Stands w s at (Interfaces p) = (interfacesOf w (p .size / 12) 0 at ≡ interfacesOf s (p .size / 12) 0 (p .start)) × RowsStand w s at (p .start) (p .size / 12)
+Stands w s at (Interfaces p) = (rowsFrom w (p .size / 12) 0 at ≡ rowsFrom s (p .size / 12) 0 (p .start)) × RowsStand w s at (p .start) (p .size / 12)
 
 -- pieces one behind the other from a place on, to the end of the message
 abbrev pub Places : List ℕ → List ℕ → ℕ → List Piece → Type 0

@@ -6,14 +6,14 @@ use native.Mathlib.Omega.{arith}
 use borrow.Author.Needs.{needs}
 use Rattle.words.specs.Written.{written}
 use Rattle.words.proofs.Written.{length-written}
-use Rattle.pieces.specs.Pieces.{interfacesOf}
+use Rattle.pieces.specs.Pieces.{rowsFrom}
 use Rattle.pieces.proofs.Pieces.{rows-start, rows-again, rows-end}
 use Rattle.pieces.proofs.piece.put_interfaces.Statement.{statement}
 use Rattle.pieces.proofs.piece.put_interfaces.Tie as tie
 
 abbrev Inv-loop : tie.InvT-loop
 Inv-loop lent start rows buf₀ at pipes₀ i₀ buf pipes i =
-    (i ≤ rows) × (written buf (at + 12 * i) (interfacesOf lent (rows - i) pipes (start + 12 * i)) ≡ written buf₀ at (interfacesOf lent rows 0 start)) × (length buf ≡ length buf₀)
+    (i ≤ rows) × (written buf (at + 12 * i) (rowsFrom lent (rows - i) pipes (start + 12 * i)) ≡ written buf₀ at (rowsFrom lent rows 0 start)) × (length buf ≡ length buf₀)
 
 abbrev μ-loop : tie.MeasureT-loop
 μ-loop lent start rows buf₀ at pipes₀ i₀ buf pipes i = rows - i
