@@ -30,11 +30,6 @@ use wire::channel_created::ChannelCreated;
 use wire::internal_io_control::InternalIoControl;
 use wire::io_control::IoControl;
 use wire::retract_device::RetractDevice;
-use wire::transfer_in_request::TransferInRequest;
-use wire::transfer_out_request::TransferOutRequest;
-use wire::urb_completion::UrbCompletion;
-use wire::urb_completion_no_data::UrbCompletionNoData;
-use words::layout::Part;
 ghost use mathlib.Core.Path.{_≡_};
 ghost use mathlib.Core.Bool.{true};
 ghost use lib.ListN.{length};
@@ -112,40 +107,13 @@ fn pieces(id: MessageId, fields: Fields) -> [Piece; 20]
             InternalIoControl::FUNCTION,
             b,
         ),
-        Fields::TransferInRequest(i, b) => transfer::pieces(
-            id,
-            i,
-            TransferInRequest::FUNCTION,
-            b.urb,
-            b.size as usize,
-            Part { start: 0, size: 0 },
-        ),
-        Fields::TransferOutRequest(i, b) => {
-            let output = b.output;
-            transfer::pieces(
-                id,
-                i,
-                TransferOutRequest::FUNCTION,
-                b.urb,
-                output.size,
-                output,
-            )
-        }
+        Fields::TransferInRequest(i, b) => transfer::in_pieces(id, i, b),
+        Fields::TransferOutRequest(i, b) => transfer::out_pieces(id, i, b),
         Fields::CancelRequest(i, b) => cancel_request::pieces(id, i, b),
         Fields::RetractDevice(i, b) => retract_device::pieces(id, i, b),
         Fields::IoControlCompletion(i, b) => io_control_completion::pieces(id, i, b),
-        Fields::UrbCompletion(i, b) => {
-            let output = b.output;
-            urb_completion::pieces(id, i, UrbCompletion::FUNCTION, b.urb, output.size, output)
-        }
-        Fields::UrbCompletionNoData(i, b) => urb_completion::pieces(
-            id,
-            i,
-            UrbCompletionNoData::FUNCTION,
-            b.urb,
-            b.size as usize,
-            Part { start: 0, size: 0 },
-        ),
+        Fields::UrbCompletion(i, b) => urb_completion::pieces(id, i, b),
+        Fields::UrbCompletionNoData(i, b) => urb_completion::no_data_pieces(id, i, b),
     }
 }
 
