@@ -12,7 +12,6 @@ use crate::io_control_completion::IoControlCompletionFields;
 use crate::register_request_callback;
 use crate::register_request_callback::RegisterRequestCallbackFields;
 use crate::retract_device;
-use crate::shared_msg_header::interface_allowed;
 use crate::transfer;
 use crate::transfer::TransferInFields;
 use crate::transfer::TransferOutFields;
@@ -61,7 +60,7 @@ fn given(fields: Fields, lent: &[u8]) -> bool
     ensures { λ r. ⌜ r ≡ givenIn (now (lent .entry)) fields ⌝ }
 {
     match fields {
-        Fields::CapabilityRequest(b) => b.capability == 1,
+        Fields::CapabilityRequest(b) => capability_request::allowed(b),
         Fields::CapabilityResponse(b) => capability_response::allowed(b),
         Fields::ChannelCreatedByServer(b) => channel_created::allowed(b),
         Fields::ChannelCreatedByClient(b) => channel_created::allowed(b),
@@ -72,7 +71,7 @@ fn given(fields: Fields, lent: &[u8]) -> bool
         Fields::InternalIoControl(i, b) => io_control::allowed(i, b, lent),
         Fields::TransferInRequest(i, b) => transfer::in_allowed(i, b, lent),
         Fields::TransferOutRequest(i, b) => transfer::out_allowed(i, b, lent),
-        Fields::CancelRequest(i, _) => interface_allowed(i),
+        Fields::CancelRequest(i, _) => cancel_request::allowed(i),
         Fields::RetractDevice(i, b) => retract_device::allowed(i, b),
         Fields::IoControlCompletion(i, b) => io_control_completion::allowed(i, b, lent),
         Fields::UrbCompletion(i, b) => urb_completion::allowed(i, b, lent),
