@@ -71,6 +71,16 @@ isochStated s b =
     (Is (urb.IsochTransfer (record { pipe = b .pipe; flags = b .flags; start = b .start; packets = b .list .size / 12; errors = b .errors; list = b .list })))
     Nothing) Nothing
 
+-- whether a structure has a function
+abbrev pub suited : ℕ → Structure → Bool
+suited function (structure.SelectConfiguration b) = eqb function 0x0000
+suited function (structure.SelectInterface b) = eqb function 0x0001
+suited function structure.GetCurrentFrameNumber = eqb function 0x0007
+suited function (structure.PipeRequest b) = cond (eqb function 0x0002) true (eqb function 0x001E)
+suited function (structure.BulkOrInterruptTransfer b) = eqb function 0x0009
+suited function (structure.ControlTransfer b) = eqb function 0x0008
+suited function (structure.IsochTransfer b) = eqb function 0x000A
+
 -- a structure under a function that it has
 unfoldable pub statedOf : List ℕ → ℕ → Structure → Stated
 statedOf s function (structure.SelectConfiguration b) = cond (eqb function 0x0000) (configurationStated s b) Nothing

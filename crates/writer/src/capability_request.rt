@@ -4,8 +4,15 @@ use header::ids::MessageId;
 use pieces::piece::Piece;
 use wire::capability_request::CapabilityRequest;
 ghost use mathlib.Core.Path.{_≡_};
+ghost use Rattle.wire.specs.CapabilityRequest.{capabilityRequestAllowed};
 ghost use Rattle.writer.specs.SharedMsgHeader.{padded};
 ghost use Rattle.writer.specs.CapabilityRequest.{capabilityRequestPieces};
+
+pub(crate) fn allowed(b: CapabilityRequest) -> bool
+    ensures { λ r. ⌜ r ≡ capabilityRequestAllowed b ⌝ }
+{
+    b.capability == 1
+}
 
 pub(crate) fn pieces(id: MessageId, b: CapabilityRequest) -> [Piece; 20]
     ensures { λ r. ⌜ r ≡ padded (capabilityRequestPieces id b) ⌝ }

@@ -12,7 +12,6 @@ use crate::io_control_completion::IoControlCompletionFields;
 use crate::register_request_callback;
 use crate::register_request_callback::RegisterRequestCallbackFields;
 use crate::retract_device;
-use crate::shared_msg_header::interface_allowed;
 use crate::transfer;
 use crate::transfer::TransferInFields;
 use crate::transfer::TransferOutFields;
@@ -30,11 +29,6 @@ use wire::channel_created::ChannelCreated;
 use wire::internal_io_control::InternalIoControl;
 use wire::io_control::IoControl;
 use wire::retract_device::RetractDevice;
-use wire::transfer_in_request::TransferInRequest;
-use wire::transfer_out_request::TransferOutRequest;
-use wire::urb_completion::UrbCompletion;
-use wire::urb_completion_no_data::UrbCompletionNoData;
-use words::layout::Part;
 ghost use mathlib.Core.Path.{_≡_};
 ghost use mathlib.Core.Bool.{true};
 ghost use lib.ListN.{length};
@@ -66,7 +60,7 @@ fn given(fields: Fields, lent: &[u8]) -> bool
     ensures { λ r. ⌜ r ≡ givenIn (now (lent .entry)) fields ⌝ }
 {
     match fields {
-        Fields::CapabilityRequest(b) => b.capability == 1,
+        Fields::CapabilityRequest(b) => capability_request::allowed(b),
         Fields::CapabilityResponse(b) => capability_response::allowed(b),
         Fields::ChannelCreatedByServer(b) => channel_created::allowed(b),
         Fields::ChannelCreatedByClient(b) => channel_created::allowed(b),
@@ -77,7 +71,7 @@ fn given(fields: Fields, lent: &[u8]) -> bool
         Fields::InternalIoControl(i, b) => io_control::allowed(i, b, lent),
         Fields::TransferInRequest(i, b) => transfer::in_allowed(i, b, lent),
         Fields::TransferOutRequest(i, b) => transfer::out_allowed(i, b, lent),
-        Fields::CancelRequest(i, _) => interface_allowed(i),
+        Fields::CancelRequest(i, _) => cancel_request::allowed(i),
         Fields::RetractDevice(i, b) => retract_device::allowed(i, b),
         Fields::IoControlCompletion(i, b) => io_control_completion::allowed(i, b, lent),
         Fields::UrbCompletion(i, b) => urb_completion::allowed(i, b, lent),
@@ -112,40 +106,13 @@ fn pieces(id: MessageId, fields: Fields) -> [Piece; 20]
             InternalIoControl::FUNCTION,
             b,
         ),
-        Fields::TransferInRequest(i, b) => transfer::pieces(
-            id,
-            i,
-            TransferInRequest::FUNCTION,
-            b.urb,
-            b.size as usize,
-            Part { start: 0, size: 0 },
-        ),
-        Fields::TransferOutRequest(i, b) => {
-            let output = b.output;
-            transfer::pieces(
-                id,
-                i,
-                TransferOutRequest::FUNCTION,
-                b.urb,
-                output.size,
-                output,
-            )
-        }
+        Fields::TransferInRequest(i, b) => transfer::in_pieces(id, i, b),
+        Fields::TransferOutRequest(i, b) => transfer::out_pieces(id, i, b),
         Fields::CancelRequest(i, b) => cancel_request::pieces(id, i, b),
         Fields::RetractDevice(i, b) => retract_device::pieces(id, i, b),
         Fields::IoControlCompletion(i, b) => io_control_completion::pieces(id, i, b),
-        Fields::UrbCompletion(i, b) => {
-            let output = b.output;
-            urb_completion::pieces(id, i, UrbCompletion::FUNCTION, b.urb, output.size, output)
-        }
-        Fields::UrbCompletionNoData(i, b) => urb_completion::pieces(
-            id,
-            i,
-            UrbCompletionNoData::FUNCTION,
-            b.urb,
-            b.size as usize,
-            Part { start: 0, size: 0 },
-        ),
+        Fields::UrbCompletion(i, b) => urb_completion::pieces(id, i, b),
+        Fields::UrbCompletionNoData(i, b) => urb_completion::no_data_pieces(id, i, b),
     }
 }
 

@@ -12,8 +12,10 @@ use pieces::piece::Piece;
 use urb::ts_urb::Urb;
 use urb_values::values;
 use wire::transfer_in_request::TransferInRequest;
+use wire::transfer_out_request::TransferOutRequest;
 use words::layout::Part;
 ghost use mathlib.Core.Path.{_≡_};
+ghost use Rattle.wire.specs.Message.{emptyPart};
 ghost use Rattle.writer.specs.SharedMsgHeader.{padded};
 ghost use Rattle.writer.specs.TsUrb.{Small};
 ghost use Rattle.writer.specs.Transfer.{incomingAllowed, outgoingAllowed, requestWord, transferInGiven, transferOutGiven, transferPieces};
@@ -109,7 +111,7 @@ fn request_word(request: RequestId, noack: bool) -> usize
 }
 
 // OutputBufferSize is `size`, and the bytes behind it are `output`.
-pub(crate) fn pieces(
+fn pieces(
     id: MessageId,
     interface: u32,
     function: u32,
@@ -137,4 +139,34 @@ pub(crate) fn pieces(
     p[12] = Piece::Word(size);
     p[13] = Piece::Run(output);
     p
+}
+
+pub(crate) fn in_pieces(id: MessageId, interface: u32, b: TransferInFields) -> [Piece; 20]
+    requires { ⌜ Small (b .urb .structure) ⌝ }
+    ensures { λ r. ⌜ r ≡ padded (transferPieces id interface 0x105 (b .urb) (b .size) emptyPart) ⌝ }
+{
+    let nothing = Part { start: 0, size: 0 };
+    pieces(
+        id,
+        interface,
+        TransferInRequest::FUNCTION,
+        b.urb,
+        b.size as usize,
+        nothing,
+    )
+}
+
+pub(crate) fn out_pieces(id: MessageId, interface: u32, b: TransferOutFields) -> [Piece; 20]
+    requires { ⌜ Small (b .urb .structure) ⌝ }
+    ensures { λ r. ⌜ r ≡ padded (transferPieces id interface 0x106 (b .urb) (b .output .size) (b .output)) ⌝ }
+{
+    let output = b.output;
+    pieces(
+        id,
+        interface,
+        TransferOutRequest::FUNCTION,
+        b.urb,
+        output.size,
+        output,
+    )
 }

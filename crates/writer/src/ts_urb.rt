@@ -18,7 +18,8 @@ use words::numbers::byte_at;
 ghost use mathlib.Core.Path.{_≡_};
 ghost use Prim.Native.Nat.{_+_, _≤_};
 ghost use lib.ListN.{length};
-ghost use Rattle.writer.specs.TsUrb.{Small, configurationStated, descriptorSized, interfaceStated, isochStated, controlStated, listedOf, statedOf, structurePieces, structureSize};
+ghost use Rattle.writer.specs.TsUrb.{Small, configurationStated, descriptorSized, interfaceStated, isochStated, controlStated, listedOf, statedOf, structurePieces, structureSize, suited};
+ghost use Rattle.writer.specs.declared.ts_urb.Structure.the-variants as structure;
 
 pub struct SelectConfigurationFields {
     // ConfigurationDescriptorIsValid
@@ -185,56 +186,41 @@ fn isoch(lent: &[u8], b: IsochTransferFields) -> Stated
     }))
 }
 
+// Whether a structure has a function.
+fn suits(function: u32, structure: Structure) -> bool
+    ensures { λ r. ⌜ r ≡ suited function structure ⌝ }
+{
+    match structure {
+        Structure::SelectConfiguration(_) => function == SelectConfiguration::FUNCTION,
+        Structure::SelectInterface(_) => function == SelectInterface::FUNCTION,
+        Structure::GetCurrentFrameNumber => function == GetCurrentFrameNumber::FUNCTION,
+        Structure::PipeRequest(_) => {
+            if function == PipeRequest::ABORT_PIPE {
+                return true;
+            }
+            function == PipeRequest::SYNC_RESET_PIPE_AND_CLEAR_STALL
+        }
+        Structure::BulkOrInterruptTransfer(_) => function == BulkOrInterruptTransfer::FUNCTION,
+        Structure::ControlTransfer(_) => function == ControlTransfer::FUNCTION,
+        Structure::IsochTransfer(_) => function == IsochTransfer::FUNCTION,
+    }
+}
+
 // A structure under a function that it has.
 pub(crate) fn state(function: u32, structure: Structure, lent: &[u8]) -> Stated
     ensures { λ r. ⌜ r ≡ statedOf (now (lent .entry)) function structure ⌝ }
 {
+    if !suits(function, structure) {
+        return Stated::Nothing;
+    }
     match structure {
-        Structure::SelectConfiguration(b) => {
-            if function != SelectConfiguration::FUNCTION {
-                return Stated::Nothing;
-            }
-            configuration(lent, b)
-        }
-        Structure::SelectInterface(b) => {
-            if function != SelectInterface::FUNCTION {
-                return Stated::Nothing;
-            }
-            interface(lent, b)
-        }
-        Structure::GetCurrentFrameNumber => {
-            if function != GetCurrentFrameNumber::FUNCTION {
-                return Stated::Nothing;
-            }
-            Stated::Is(Urb::GetCurrentFrameNumber)
-        }
-        Structure::PipeRequest(b) => {
-            if function == PipeRequest::ABORT_PIPE {
-                return Stated::Is(Urb::PipeRequest(b));
-            }
-            if function != PipeRequest::SYNC_RESET_PIPE_AND_CLEAR_STALL {
-                return Stated::Nothing;
-            }
-            Stated::Is(Urb::PipeRequest(b))
-        }
-        Structure::BulkOrInterruptTransfer(b) => {
-            if function != BulkOrInterruptTransfer::FUNCTION {
-                return Stated::Nothing;
-            }
-            Stated::Is(Urb::BulkOrInterruptTransfer(b))
-        }
-        Structure::ControlTransfer(b) => {
-            if function != ControlTransfer::FUNCTION {
-                return Stated::Nothing;
-            }
-            control(lent, b)
-        }
-        Structure::IsochTransfer(b) => {
-            if function != IsochTransfer::FUNCTION {
-                return Stated::Nothing;
-            }
-            isoch(lent, b)
-        }
+        Structure::SelectConfiguration(b) => configuration(lent, b),
+        Structure::SelectInterface(b) => interface(lent, b),
+        Structure::GetCurrentFrameNumber => Stated::Is(Urb::GetCurrentFrameNumber),
+        Structure::PipeRequest(b) => Stated::Is(Urb::PipeRequest(b)),
+        Structure::BulkOrInterruptTransfer(b) => Stated::Is(Urb::BulkOrInterruptTransfer(b)),
+        Structure::ControlTransfer(b) => control(lent, b),
+        Structure::IsochTransfer(b) => isoch(lent, b),
     }
 }
 
@@ -267,21 +253,40 @@ pub(crate) fn size(structure: Structure) -> usize
     }
 }
 
+fn configuration_pieces(b: SelectConfigurationFields) -> [Piece; 6]
+    ensures { λ r. ⌜ r ≡ structurePieces (structure.SelectConfiguration b) ⌝ }
+{
+    let mut p = [Piece::Nothing; 6];
+    let list = b.interfaces;
+    let d = b.descriptor;
+    p[0] = Piece::Word(b.flag as usize);
+    p[1] = Piece::Word(b.count as usize);
+    p[2] = Piece::Interfaces(list);
+    p[3] = Piece::Run(d);
+    p
+}
+
+fn isoch_pieces(b: IsochTransferFields) -> [Piece; 6]
+    ensures { λ r. ⌜ r ≡ structurePieces (structure.IsochTransfer b) ⌝ }
+{
+    let mut p = [Piece::Nothing; 6];
+    let list = b.list;
+    p[0] = Piece::Word(b.pipe as usize);
+    p[1] = Piece::Word(b.flags as usize);
+    p[2] = Piece::Word(b.start as usize);
+    p[3] = Piece::Word(list.size / 12);
+    p[4] = Piece::Word(b.errors as usize);
+    p[5] = Piece::Run(list);
+    p
+}
+
 // The pieces behind its header.
 pub(crate) fn pieces(structure: Structure) -> [Piece; 6]
     ensures { λ r. ⌜ r ≡ structurePieces structure ⌝ }
 {
     let mut p = [Piece::Nothing; 6];
     match structure {
-        Structure::SelectConfiguration(b) => {
-            let list = b.interfaces;
-            let d = b.descriptor;
-            p[0] = Piece::Word(b.flag as usize);
-            p[1] = Piece::Word(b.count as usize);
-            p[2] = Piece::Interfaces(list);
-            p[3] = Piece::Run(d);
-            p
-        }
+        Structure::SelectConfiguration(b) => configuration_pieces(b),
         Structure::SelectInterface(b) => {
             let one = b.interface;
             p[0] = Piece::Word(b.handle as usize);
@@ -305,15 +310,6 @@ pub(crate) fn pieces(structure: Structure) -> [Piece; 6]
             p[2] = Piece::Run(setup);
             p
         }
-        Structure::IsochTransfer(b) => {
-            let list = b.list;
-            p[0] = Piece::Word(b.pipe as usize);
-            p[1] = Piece::Word(b.flags as usize);
-            p[2] = Piece::Word(b.start as usize);
-            p[3] = Piece::Word(list.size / 12);
-            p[4] = Piece::Word(b.errors as usize);
-            p[5] = Piece::Run(list);
-            p
-        }
+        Structure::IsochTransfer(b) => isoch_pieces(b),
     }
 }

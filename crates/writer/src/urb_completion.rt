@@ -11,6 +11,7 @@ use wire::urb_completion_no_data::UrbCompletionNoData;
 use words::layout::Part;
 ghost use mathlib.Core.Path.{_≡_};
 ghost use Prim.Native.Nat.{_≤_};
+ghost use Rattle.wire.specs.Message.{emptyPart};
 ghost use Rattle.writer.specs.SharedMsgHeader.{padded};
 ghost use Rattle.writer.specs.UrbCompletion.{completionPieces, resultGiven, urbCompletionGiven};
 
@@ -61,7 +62,7 @@ pub(crate) fn allowed(interface: u32, b: UrbCompletionFields, lent: &[u8]) -> bo
 }
 
 // OutputBufferSize is `size`, and the bytes behind it are `output`.
-pub(crate) fn pieces(
+fn result_pieces(
     id: MessageId,
     interface: u32,
     function: u32,
@@ -85,4 +86,38 @@ pub(crate) fn pieces(
     p[9] = Piece::Word(size);
     p[10] = Piece::Run(output);
     p
+}
+
+pub(crate) fn pieces(id: MessageId, interface: u32, b: UrbCompletionFields) -> [Piece; 20]
+    requires { ⌜ b .urb .rest .size ≤ 65535 ⌝ }
+    ensures { λ r. ⌜ r ≡ padded (completionPieces id interface 0x101 (b .urb) (b .output .size) (b .output)) ⌝ }
+{
+    let output = b.output;
+    result_pieces(
+        id,
+        interface,
+        UrbCompletion::FUNCTION,
+        b.urb,
+        output.size,
+        output,
+    )
+}
+
+pub(crate) fn no_data_pieces(
+    id: MessageId,
+    interface: u32,
+    b: UrbCompletionNoDataFields,
+) -> [Piece; 20]
+    requires { ⌜ b .urb .rest .size ≤ 65535 ⌝ }
+    ensures { λ r. ⌜ r ≡ padded (completionPieces id interface 0x102 (b .urb) (b .size) emptyPart) ⌝ }
+{
+    let nothing = Part { start: 0, size: 0 };
+    result_pieces(
+        id,
+        interface,
+        UrbCompletionNoData::FUNCTION,
+        b.urb,
+        b.size as usize,
+        nothing,
+    )
 }
