@@ -10,7 +10,7 @@ abbrev Inv-loop : tie.InvT-loop
 Inv-loop lent₀ room₀ number₀ lent room number = (length lent ≡ length lent₀) × (length room ≡ length room₀)
 
 abbrev μ-loop : tie.MeasureT-loop
-μ-loop lent₀ room₀ number₀ lent room number = 1000000 - number
+μ-loop lent₀ room₀ number₀ lent room number = 0xFFFF_FFFF_FFFF_FFFF - number
 
 pub calls-spec : {M : Type 1} → statement M
 calls-spec =
