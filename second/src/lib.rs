@@ -1,13 +1,14 @@
-//! A second, independent reading of document 01 and of 02 R-1, made to be run
-//! beside the first one on the same captures and calls.
+//! A second, independent reading of document 01, of 02 R-1 and of 02 R-2, made to
+//! be run beside the first one on the same captures and calls.
 //!
 //! The modules follow the headings of 01: `wire` reads numbers, `kinds` is the
 //! table of "Header and kinds", `body` and `urb` are "Bodies after the 12
 //! bytes", `table` holds channels, rows and the order of the answers, `journal`
 //! and `capture` are "Journal" and "Listing". `maker` writes captures out of
 //! `proper` (messages as 01 wants them), `aims` (messages wrong in one chosen
-//! way) and `damage` (blind damage), all on top of `compose`; `tally` counts
-//! what a capture reaches.
+//! way), `late` (cancelled requests, 02 R-2) and `damage` (blind damage), all on
+//! top of `compose`; `tally` counts what a capture reaches, `situations` what it
+//! has of 02 R-2.
 //!
 //! `writer` is 02 R-1: from the fields that `body` and `urb` read to the bytes
 //! of a message. `rebuild` makes the messages of a capture anew with it; `calls`
@@ -24,10 +25,12 @@ pub mod damage;
 pub mod drawn;
 pub mod journal;
 pub mod kinds;
+pub mod late;
 pub mod maker;
 pub mod proper;
 pub mod rebuild;
 pub mod rng;
+pub mod situations;
 pub mod table;
 pub mod tally;
 pub mod urb;

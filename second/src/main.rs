@@ -7,7 +7,7 @@ const USAGE: &str = "\
 second list [--first N]    the listing of a capture
 second payloads            length and Adler-32 of each call's payload
 second make SEED CALLS     a capture on standard output
-second tally               kinds and answers that a capture reaches
+second tally               kinds, answers and situations that a capture reaches
 second record N            one record, counted from 1
 second rebuild             a capture with its messages made anew by the writer
 second calls               the chosen calls of the writer

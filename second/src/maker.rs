@@ -16,6 +16,8 @@ pub struct Mix {
     /// and of aiming at answer 2, 3, 5 and so on up to 14.
     proper: u32,
     blind: u32,
+    /// Weight of a step around a cancelled request.
+    late: u32,
     aims: [(u8, u32); 12],
     /// Percent of calls that stay on the channel of the call before.
     stay: usize,
@@ -31,7 +33,7 @@ pub struct Mix {
 
 const EVEN: [(u8, u32); 12] = [
     (2, 4),
-    (3, 3),
+    (3, 4),
     (5, 6),
     (6, 4),
     (7, 9),
@@ -50,6 +52,7 @@ pub const MIXES: [Mix; 8] = [
         channels: 8,
         proper: 85,
         blind: 8,
+        late: 26,
         aims: EVEN,
         stay: 50,
         end: 60,
@@ -62,6 +65,7 @@ pub const MIXES: [Mix; 8] = [
         channels: 2,
         proper: 150,
         blind: 4,
+        late: 40,
         aims: EVEN,
         stay: 70,
         end: 250,
@@ -74,6 +78,7 @@ pub const MIXES: [Mix; 8] = [
         channels: 5,
         proper: 90,
         blind: 45,
+        late: 28,
         aims: EVEN,
         stay: 60,
         end: 120,
@@ -86,6 +91,7 @@ pub const MIXES: [Mix; 8] = [
         channels: 3,
         proper: 95,
         blind: 3,
+        late: 30,
         aims: [
             (2, 4),
             (3, 4),
@@ -111,6 +117,7 @@ pub const MIXES: [Mix; 8] = [
         channels: 8,
         proper: 110,
         blind: 12,
+        late: 34,
         aims: [
             (2, 5),
             (3, 5),
@@ -136,6 +143,7 @@ pub const MIXES: [Mix; 8] = [
         channels: 4,
         proper: 95,
         blind: 8,
+        late: 28,
         aims: [
             (2, 4),
             (3, 4),
@@ -161,6 +169,7 @@ pub const MIXES: [Mix; 8] = [
         channels: 6,
         proper: 100,
         blind: 5,
+        late: 36,
         aims: [
             (2, 3),
             (3, 3),
@@ -186,6 +195,7 @@ pub const MIXES: [Mix; 8] = [
         channels: 1,
         proper: 95,
         blind: 10,
+        late: 26,
         aims: EVEN,
         stay: 100,
         end: 90,
@@ -206,6 +216,10 @@ pub struct Maker {
     pub table: Table,
     pub mix: &'static Mix,
     pub filling: [bool; CHANNELS],
+    /// Channels that are to have all their rows marked once they are full.
+    pub marking: [bool; CHANNELS],
+    /// Rows of each channel that were marked when they were freed.
+    pub gone: [Vec<Row>; CHANNELS],
     /// Request ids that were open once on each channel, or never needed a row.
     pub spent: [Vec<u32>; CHANNELS],
     /// Device and callback ids given earlier on any channel.
@@ -219,11 +233,11 @@ pub struct Maker {
     out: Vec<u8>,
 }
 
-fn remember(list: &mut Vec<u32>, id: u32) {
+fn remember<T>(list: &mut Vec<T>, item: T) {
     if list.len() == 12 {
         list.remove(0);
     }
-    list.push(id);
+    list.push(item);
 }
 
 impl Maker {
@@ -233,6 +247,8 @@ impl Maker {
             table: Table::open(1),
             mix: &MIXES[(seed % MIXES.len() as u64) as usize],
             filling: [false; CHANNELS],
+            marking: [false; CHANNELS],
+            gone: Default::default(),
             spent: Default::default(),
             ports: vec![4, 5],
             last_device: [4; CHANNELS],
@@ -271,12 +287,13 @@ impl Maker {
             let answer = self.rng.pick(&[5, 6, 7, 7, 7, 8, 8, 8, 8]);
             return self.aim(c, answer);
         }
-        let mut weights = vec![self.mix.proper, self.mix.blind];
+        let mut weights = vec![self.mix.proper, self.mix.blind, self.mix.late];
         weights.extend(self.mix.aims.iter().map(|(_, weight)| *weight));
         match self.rng.weighted(&weights) {
             0 => self.proper(c),
             1 => self.blind(c),
-            aim => self.aim(c, self.mix.aims[aim - 2].0),
+            2 => self.late(c),
+            aim => self.aim(c, self.mix.aims[aim - 3].0),
         }
     }
 
@@ -311,6 +328,13 @@ impl Maker {
         self.stamp
     }
 
+    fn freed(&mut self, c: usize, row: Row) {
+        remember(&mut self.spent[c], row.request);
+        if row.marked {
+            remember(&mut self.gone[c], row);
+        }
+    }
+
     fn emit(&mut self, call: Call) {
         let stamp = self.next_stamp();
         let c = usize::from(call.channel);
@@ -337,10 +361,13 @@ impl Maker {
                         self.last_callback[c] = callback;
                     }
                 }
-                12 | 13 | 15 | 16 | 17 => remember(&mut self.spent[c], entry.request),
-                14 | 18 => {
+                12 | 13 => remember(&mut self.spent[c], entry.request),
+                14..=18 => {
+                    let now = self.table.channels[c];
                     for row in before {
-                        remember(&mut self.spent[c], row.request);
+                        if now.row_of(row.request).is_none() {
+                            self.freed(c, row);
+                        }
                     }
                 }
                 _ => {}

@@ -12,6 +12,8 @@ use crate::urb::{
     ISOCH_TRANSFER, SELECT_CONFIGURATION, SELECT_INTERFACE, SYNC_RESET_PIPE_AND_CLEAR_STALL,
 };
 
+/// The top bit of a transfer's RequestId word (000 2.2.9.1.1); in the id of an IO
+/// request, which has all 32 bits, it is a bit of the id.
 pub const NO_ACK: u32 = 0x8000_0000;
 pub const INSUFFICIENT_BUFFER: u32 = 0x8007_007A;
 pub const RESTRICTED: [u16; 5] = [
@@ -448,15 +450,22 @@ impl Maker {
         } else {
             self.fresh(c, false)
         };
-        let first = self.device_word(c);
-        let id = self.message_id(c);
-        self.call(c, SERVER, words(first, id, 0x100, &[request]))
+        self.cancel_of(c, request)
     }
 
     pub fn close(&mut self, c: usize) -> Call {
         let count = self.rng.pick(&[0, 0, 0, 1, 5, 12, 40]);
         let skipped = self.rng.bytes(count);
         self.call(c, CLOSE, skipped)
+    }
+
+    /// A retract, in so many of a hundred, or a close.
+    pub fn end(&mut self, c: usize, retract: usize) -> Call {
+        if self.rng.percent(retract) {
+            self.well_formed(c, 14)
+        } else {
+            self.close(c)
+        }
     }
 
     /// A message of the kind in its proper shape, whatever the phase; 12 stands
@@ -505,6 +514,7 @@ impl Maker {
                         sort: Sort::Io,
                         limit: self.rng.between(1, 20) as u32,
                         number: 0,
+                        marked: false,
                     }
                 } else {
                     self.rng.pick(&fitting)
@@ -540,6 +550,11 @@ impl Maker {
         if phase < 5 && self.rng.one_in(100) {
             return self.close(c);
         }
+        if phase != 5 && self.rng.percent(if phase == 6 { 35 } else { 10 }) {
+            if let Some(call) = self.too_late(c) {
+                return call;
+            }
+        }
         match phase {
             0..=3 => self.well_formed(c, phase + 1),
             4 => {
@@ -561,70 +576,124 @@ impl Maker {
     }
 
     fn ready(&mut self, c: usize) -> Call {
+        let first = self
+            .while_unheard(c)
+            .or_else(|| self.mark_or_end(c))
+            .or_else(|| self.beyond_full(c));
+        if let Some(call) = first {
+            return call;
+        }
+        self.start_filling(c);
+        match self.rng.below(100) {
+            0..=2 => self.register(c, 1),
+            3 => self.register(c, 0),
+            4..=9 => self.cancel(c),
+            _ => self.open_or_complete(c),
+        }
+    }
+
+    /// Where no callback is given: often a completion all the same, or a callback.
+    fn while_unheard(&mut self, c: usize) -> Option<Call> {
+        if self.channel(c).callback.is_some() {
+            return None;
+        }
         let rows = self.rows(c);
-        let has_callback = self.channel(c).callback.is_some();
-        if !has_callback && !rows.is_empty() && self.rng.percent(35) {
+        if !rows.is_empty() && self.rng.percent(35) {
             // Nothing is listening: the row stays open.
             let row = self.rng.pick(&rows);
-            return self.complete(c, row);
+            return Some(self.complete(c, row));
         }
-        if !has_callback && self.rng.percent(60) {
+        if self.rng.percent(60) {
             let count = self.rng.pick(&[1, 1, 1, 2, 0x8000_0000]);
-            return self.register(c, count);
+            return Some(self.register(c, count));
         }
-        let full = rows.len() == ROWS;
-        // A channel on its way to the sixteenth row is left to get there.
-        if (full || !self.filling[c]) && self.rng.one_in(self.mix.end) {
-            return if self.rng.percent(65) {
-                self.well_formed(c, 14)
-            } else {
-                self.close(c)
-            };
+        None
+    }
+
+    fn is_full(&self, c: usize) -> bool {
+        self.rows(c).len() == ROWS
+    }
+
+    /// The channel is being filled, and has rows that are still to be marked.
+    fn is_marking(&self, c: usize) -> bool {
+        self.filling[c] && self.marking[c] && !self.rows_with_mark(c, false).is_empty()
+    }
+
+    /// A cancel that marks one row more, or an end of a channel that has nowhere to
+    /// get to.
+    fn mark_or_end(&mut self, c: usize) -> Option<Call> {
+        let (full, marking) = (self.is_full(c), self.is_marking(c));
+        if marking && self.rng.percent(if full { 80 } else { 40 }) {
+            let unmarked = self.rows_with_mark(c, false);
+            let row = self.rng.pick(&unmarked);
+            return Some(self.cancel_of(c, row.request));
         }
-        if full && self.filling[c] {
-            if self.rng.percent(20) {
-                self.filling[c] = false;
-            }
-            match self.rng.below(10) {
-                0..=2 => return self.one_too_many(c),
-                3 => return self.open_again(c),
-                _ => {}
-            }
+        // A channel on its way to the sixteenth row, or to the mark of each, is
+        // left to get there.
+        let on_its_way = self.filling[c] && !full || marking;
+        if !on_its_way && self.rng.one_in(self.mix.end) {
+            return Some(self.end(c, 65));
         }
-        if rows.len() <= 1 && !self.filling[c] {
+        None
+    }
+
+    /// On a channel that has been filled: at times a request for which there is no
+    /// row or whose id is open, and at times an end to the filling.
+    fn beyond_full(&mut self, c: usize) -> Option<Call> {
+        if !self.is_full(c) || !self.filling[c] {
+            return None;
+        }
+        if !self.is_marking(c) && self.rng.percent(20) {
+            self.filling[c] = false;
+        }
+        match self.rng.below(10) {
+            0..=2 => Some(self.one_too_many(c)),
+            3 => Some(self.open_again(c)),
+            _ => None,
+        }
+    }
+
+    /// Draws whether a drained channel is filled, and whether its rows are marked
+    /// then.
+    fn start_filling(&mut self, c: usize) {
+        if self.rows(c).len() <= 1 && !self.filling[c] {
             self.filling[c] = self.rng.percent(self.mix.fill);
+            self.marking[c] = self.rng.percent(50);
         }
-        match self.rng.below(100) {
-            0..=2 => return self.register(c, 1),
-            3 => return self.register(c, 0),
-            4..=9 if !self.filling[c] => return self.cancel(c),
-            _ => {}
-        }
-        let opening = if full {
+    }
+
+    fn open_or_complete(&mut self, c: usize) -> Call {
+        let rows = self.rows(c);
+        let opening = if self.is_full(c) {
             false
         } else if self.filling[c] {
             self.rng.percent(92)
         } else {
             rows.is_empty() || self.rng.percent(35)
         };
-        if opening || !has_callback || rows.is_empty() {
-            let no_ack = self.channel(c).no_ack_ms != 0;
-            let kind = match self.rng.below(10) {
-                0 | 1 => 8,
-                2 | 3 => 9,
-                4..=6 => 10,
-                7 if no_ack => 12,
-                _ => 11,
-            };
-            let request = if kind == 12 && !rows.is_empty() && self.rng.percent(40) {
-                // NoAck skips answer 9, so an id that is open serves as well.
-                self.rng.pick(&rows).request & !NO_ACK
-            } else {
-                self.fresh(c, kind >= 10)
-            };
-            return self.request(c, kind, request);
+        if opening || self.channel(c).callback.is_none() || rows.is_empty() {
+            return self.some_request(c);
         }
         let row = self.rng.pick(&rows);
         self.complete(c, row)
+    }
+
+    fn some_request(&mut self, c: usize) -> Call {
+        let rows = self.rows(c);
+        let no_ack = self.channel(c).no_ack_ms != 0;
+        let kind = match self.rng.below(10) {
+            0 | 1 => 8,
+            2 | 3 => 9,
+            4..=6 => 10,
+            7 if no_ack => 12,
+            _ => 11,
+        };
+        let request = if kind == 12 && !rows.is_empty() && self.rng.percent(40) {
+            // NoAck skips answer 9, so an id that is open serves as well.
+            self.rng.pick(&rows).request & !NO_ACK
+        } else {
+            self.fresh(c, kind >= 10)
+        };
+        self.request(c, kind, request)
     }
 }

@@ -5,6 +5,7 @@ use std::fmt::Write;
 use crate::capture::Capture;
 use crate::kinds::CLOSE;
 use crate::rebuild;
+use crate::situations::{Situation, Situations};
 use crate::table::Table;
 
 pub const KINDS: usize = 19;
@@ -42,6 +43,7 @@ pub struct Tally {
     /// Messages that pass checks 3 to 8 and have padding that is not zero:
     /// what rebuilding has to change.
     pub padded: u64,
+    pub situations: Situations,
     lengths: Vec<usize>,
     bytes: usize,
 }
@@ -65,6 +67,7 @@ impl Tally {
             short: capture.short,
             pairs: [[0; ANSWERS]; KINDS],
             padded: changed(&capture, bytes),
+            situations: Situations::default(),
             lengths: Vec::new(),
             bytes: bytes.len(),
         };
@@ -78,6 +81,7 @@ impl Tally {
             if let Some(entry) = entry {
                 tally.calls += 1;
                 tally.pairs[usize::from(entry.kind)][usize::from(entry.answer)] += 1;
+                tally.situations.see(record, &entry);
             }
         }
         tally.lengths.sort_unstable();
@@ -161,6 +165,11 @@ impl Tally {
                 unseen.join(" ")
             }
         );
+        let _ = writeln!(out, "\ncancelled requests (02 R-2): count, then situation");
+        for situation in Situation::all() {
+            let count = self.situations.count(situation);
+            let _ = writeln!(out, "{count:>6}  {situation}");
+        }
         out
     }
 }

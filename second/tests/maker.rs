@@ -2,6 +2,7 @@
 
 use second::capture::{listing, payloads, Capture};
 use second::maker::{make, MIXES};
+use second::situations::Situation;
 use second::tally::{Tally, POSSIBLE};
 
 #[test]
@@ -63,6 +64,35 @@ fn together_the_mixes_reach_every_possible_pair_and_no_other() {
         for (answer, count) in row.iter().enumerate() {
             let possible = POSSIBLE[kind].1.contains(&(answer as u8));
             assert_eq!(*count > 0, possible, "kind {kind} answer {answer}");
+        }
+    }
+}
+
+/// 02 R-2.
+#[test]
+fn every_mix_reaches_every_situation_of_cancelled_requests() {
+    for seed in 0..MIXES.len() as u64 {
+        let tally = Tally::of(&make(seed, 20_000));
+        for situation in Situation::all() {
+            let count = tally.situations.count(situation);
+            assert!(count >= 5, "seed {seed}: {count} {situation}");
+        }
+    }
+}
+
+/// 02 R-2.
+#[test]
+fn together_short_captures_reach_every_situation_of_cancelled_requests() {
+    let mixes = MIXES.len() as u64;
+    for (first, calls) in [(0, 2_000), (mixes, 1_000)] {
+        let captures = (first..first + mixes).map(|seed| make(seed, calls));
+        let tallies: Vec<Tally> = captures.map(|bytes| Tally::of(&bytes)).collect();
+        for situation in Situation::all() {
+            let counts = tallies
+                .iter()
+                .map(|tally| tally.situations.count(situation));
+            let count: u64 = counts.sum();
+            assert!(count >= 3, "{calls} calls: {count} {situation}");
         }
     }
 }

@@ -123,7 +123,6 @@ fn no_bytes_stand_behind_kind_17() {
 fn a_refused_completion_keeps_the_row() {
     let mut table = ready();
     judge(&mut table, 1, &io(7, 4));
-    let before = table.channels;
     let refusals: [(Vec<u8>, u8); 5] = [
         (io_done(7, 0, 4, &[1, 2, 3]), 14),
         (io_done(7, 0, 5, &[1, 2, 3, 4, 5]), 13),
@@ -131,9 +130,14 @@ fn a_refused_completion_keeps_the_row() {
         (urb_done_plain(7, 0), 12),
         (io_done(8, 0, 0, &[]), 11),
     ];
-    for (message, wanted) in refusals {
-        assert_eq!(answer(&mut table, 2, &message), wanted);
-        assert_eq!(table.channels, before);
+    // 02 R-2: and so it does once a cancel has marked the row.
+    for _ in 0..2 {
+        let before = table.channels;
+        for (message, wanted) in &refusals {
+            assert_eq!(answer(&mut table, 2, message), *wanted);
+            assert_eq!(table.channels, before);
+        }
+        judge(&mut table, 1, &cancel(7));
     }
     assert_eq!(judge(&mut table, 2, &io_done(7, 0, 0, &[])).cause, 10);
 }

@@ -1,4 +1,5 @@
-//! Rules of 01 that its cases do not touch, each at its limit.
+//! Rules of 01 that its cases do not touch, each at its limit. Cancels, which 02
+//! R-2 corrects, are in `late.rs`.
 
 mod common;
 
@@ -583,20 +584,6 @@ fn results_have_a_header_of_eight_bytes() {
 }
 
 #[test]
-fn a_cancel_closes_its_row() {
-    let mut table = ready();
-    judge(&mut table, 1, &bulk_in(7, 4));
-    let cancel = words(&[0x4000_0004, 0, 0x100, 7]);
-    let entry = judge(&mut table, 1, &cancel);
-    assert_eq!(
-        (entry.kind, entry.request, entry.cause, entry.size),
-        (13, 7, 10, 0)
-    );
-    assert_eq!(answer(&mut table, 2, &urb_done(7, &[1])), 11);
-    assert_eq!(judge(&mut table, 1, &cancel).cause, 0);
-}
-
-#[test]
 fn ids_of_io_requests_have_32_bits() {
     let mut table = ready();
     assert_eq!(
@@ -620,6 +607,7 @@ fn the_lowest_row_counts_where_an_id_stands_twice() {
             sort: Sort::Io,
             limit: 4,
             number,
+            marked: false,
         })
     };
     table.channels[0].rows[9] = row(1);

@@ -175,7 +175,7 @@ fn isochronous(t: Table) -> Table {
     server(t, packets, &bytes::PACKETS)
 }
 
-// A frame number, which is behind the result's header; a read, which is cancelled; and a pipe that is aborted, which is never answered.
+// A frame number, which is behind the result's header; a read, which is cancelled, and whose completion was on its way (02 R-2); and a pipe that is aborted, which is never answered.
 pub(crate) fn stopped(t: Table) -> Table {
     let frame = urb(
         GetCurrentFrameNumber::FUNCTION,
@@ -194,7 +194,8 @@ pub(crate) fn stopped(t: Table) -> Table {
         request: ids::request(9),
     };
     let cancelled = server(reading, Fields::CancelRequest(ids::DEVICE, cancel), b"");
-    server(cancelled, transfer_in(abort(10), 0), b"")
+    let late = client(cancelled, done(9, NOTHING, 0), b"");
+    server(late, transfer_in(abort(10), 0), b"")
 }
 
 fn read(id: u8) -> TsUrbFields {

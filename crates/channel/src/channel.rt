@@ -1,9 +1,10 @@
 // What a channel keeps.
+use crate::row;
 use crate::row::Row;
 use crate::row::Sort;
 use header::ids::Known;
 ghost use mathlib.Core.Path.{_≡_};
-ghost use Rattle.channel.specs.Rows.{withRow, emptied, newChannel};
+ghost use Rattle.channel.specs.Rows.{withRow, withMark, emptied, newChannel};
 
 pub struct Channel {
     pub phase: u8,
@@ -40,6 +41,17 @@ pub fn put(c: Channel, at: usize, row: Row) -> Channel
     } else {
         c
     }
+}
+
+// The channel with the row at a place marked; a place past the last row changes nothing.
+pub fn mark(c: Channel, at: usize) -> Channel
+    ensures { λ r. ⌜ r ≡ withMark c at ⌝ }
+{
+    if 16 <= at {
+        return c;
+    }
+    let row = c.rows[at];
+    put(c, at, row::mark(row))
 }
 
 // The channel with every row free.

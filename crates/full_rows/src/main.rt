@@ -1,8 +1,9 @@
 // A session in which one channel's rows fill up: 16 requests are open, a seventeenth is refused with 10, and after request 3 completes the next one
-// takes row 3 (01 "Shown of the rules themselves"). And one that comes to its limits: a message of 65,535 bytes, one of 65,536, which is refused with 4, and then a call for which no number is left, which
+// takes row 3 (01 "Shown of the rules themselves"). Then request 5 is cancelled: its row is marked and stays open, so that another request is refused with 10 still, and takes row 5 once the
+// completion has come (02 R-2). And one that comes to its limits: a message of 65,535 bytes, one of 65,536, which is refused with 4, and then a call for which no number is left, which
 // gets 1; so does a call on a table opened at 0. No capture can ask for a 4 or, at its length, for a 1.
 //
-// A line a call: its answer, the next number after it, and then the 16 rows, each by the RequestId that it holds, or by a dash where it is free.
+// A line a call: its answer, the next number after it, and then the 16 rows, each by the RequestId that it holds, with a star where it is marked, or by a dash where it is free.
 use answers::answer;
 use channel::channel::Channel;
 use channel::row::Open;
@@ -23,8 +24,16 @@ fn main() {
     let full = fill(ready);
     let refused = request(full, 16);
     let done = complete(refused, 3);
-    request(done, 16);
+    let again = request(done, 16);
+    late_completion(again);
     limits();
+}
+
+fn late_completion(t: Table) {
+    let marked = cancel(t, 5);
+    let refused = request(marked, 17);
+    let done = complete(refused, 5);
+    request(done, 17);
 }
 
 // From this number on a session takes six, and the two long messages the last two.
@@ -79,6 +88,12 @@ fn request(t: Table, id: u8) -> Table {
     call(t, SERVER, &m)
 }
 
+fn cancel(t: Table, id: u8) -> Table {
+    let mut m = messages::CANCEL_REQUEST;
+    m[12] = id;
+    call(t, SERVER, &m)
+}
+
 fn complete(t: Table, id: u8) -> Table {
     let mut m = messages::IO_CONTROL_COMPLETION;
     m[12] = id;
@@ -124,4 +139,7 @@ fn row(r: Row) {
 fn id(o: Open) {
     let request = o.request;
     io::print_decimal(1, request.number() as u64);
+    if o.marked {
+        io::write_all(1, b"*");
+    }
 }

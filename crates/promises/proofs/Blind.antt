@@ -58,7 +58,7 @@ shows k (asks.IoControl r) n jitter s = taken-has (Shows (asks.IoControl r)) k (
 shows k (asks.TransferIn r) n jitter s = taken-has (Shows (asks.TransferIn r)) k (λ b q. inr refl) r _ (s .here) (s .free) (λ at e. inl refl)
 shows k (asks.TransferOut r) n jitter s = out-has (Shows (asks.TransferOut r)) k (λ b q. inr refl) r n jitter (s .here) (s .free) (inl refl) (λ at e. inl refl)
 shows k (asks.Cancel id) n jitter s =
-    cancelled-has (Shows (asks.Cancel id)) k (λ b q. inr refl) id (s .here) (inr refl) (λ at o e. inr refl) (λ at o e. inr refl) (λ at o e. inr refl)
+    cancelled-has (Shows (asks.Cancel id)) k (λ b q. inr refl) id (s .here) (inr refl) (λ at o e m. inr refl) (λ at o e m. inr refl) (λ at o e m. inr refl)
 shows k asks.Retract n jitter s = inr refl
 shows k (asks.IoCompletion d) n jitter s = io-has (Shows (asks.IoCompletion d)) k (λ b q. inr refl) d (s .here) (λ at o e. inl refl)
 shows k (asks.UrbCompletion d) n jitter s = urb-has (Shows (asks.UrbCompletion d)) k (λ b q. inr refl) d (s .here) (λ at o e. inl refl)

@@ -3,12 +3,12 @@
 use Prim.Native.Nat.{ℕ, _≤_}
 use native.Mathlib.Omega.{arith}
 use mathlib.Core.Path.{_≡_, refl}
+use mathlib.Core.Bool.{false}
 use lib.Dec.{eqb, ltb}
 use Rattle.words.proofs.Steps.{either}
 use Rattle.answers.specs.Kind.{kindNumber}
 use Rattle.header.specs.declared.ids.RequestId.{RequestId}
 use Rattle.answers.specs.declared.kind.Kind.{Kind}
-use Rattle.wire.specs.Message.{emptyPart}
 use Rattle.wire.specs.declared.message.IoCompleted.{IoCompleted}
 use Rattle.wire.specs.declared.message.Request.{Request}
 use Rattle.wire.specs.declared.message.UrbCompleted.{UrbCompleted}
@@ -25,8 +25,9 @@ use Rattle.answers.specs.declared.answer.Answer.{Answer}
 use Rattle.answers.specs.declared.answer.Answer.the-variants.{AlreadyOpen, Full, NotOpen, ResultDisagrees, TooMuch, Value, WrongSort}
 use Rattle.rules.specs.Verdict.{accepted}
 use Rattle.rules.specs.Request.{opened, taken, takenAt, transferOutDecided}
-use Rattle.rules.specs.Completion.{cancelled, closes, ioCompleted, noDataCompleted, resultAgrees, urbClosed, urbCompleted}
-use Rattle.rules.specs.declared.verdict.Act.the-variants.{Keep}
+use Rattle.rules.specs.Cancel.{acceptedCancel, cancelled, marks}
+use Rattle.rules.specs.Completion.{closes, ioCompleted, noDataCompleted, resultAgrees, urbClosed, urbCompleted}
+use Rattle.rules.specs.declared.verdict.Act.the-variants.{Keep, Mark}
 use Rattle.rules.specs.declared.verdict.Verdict.{Verdict}
 use Rattle.rules.specs.declared.verdict.Verdict.the-variants.{Refused, Accepted}
 
@@ -72,11 +73,15 @@ module _ (P : Verdict → Type 0) (k : Kind) (refuses : (a : Answer) → 7 ≤ a
   no-data-has d (held.In at o) g h = closed-has d 0 at o (g at o refl)
   no-data-has d (held.Out at o) g h = closed-has d (o .size) at o (h at o refl)
 
-  -- a cancel finds nothing, or closes the request of the row that was found
-  pub cancelled-has : (id : RequestId) (here : Held) → P (accepted k (id .0) 0 0 emptyPart Keep)
-      → ((at : ℕ) (o : Open) → here ≡ held.Io at o → P (closes k at o id 0 emptyPart)) → ((at : ℕ) (o : Open) → here ≡ held.In at o → P (closes k at o id 0 emptyPart))
-      → ((at : ℕ) (o : Open) → here ≡ held.Out at o → P (closes k at o id 0 emptyPart)) → P (cancelled k id here)
+  -- a cancel finds nothing to mark, or marks the row that was found
+  marks-has : (id : RequestId) (at : ℕ) (o : Open) → P (acceptedCancel k id 0 Keep) → (o .marked ≡ false → P (acceptedCancel k id (o .number) (Mark at))) → P (marks k id at o)
+  marks-has id at o h f = either P (o .marked) _ _ (λ e. h) f
+
+  pub cancelled-has : (id : RequestId) (here : Held) → P (acceptedCancel k id 0 Keep)
+      → ((at : ℕ) (o : Open) → here ≡ held.Io at o → o .marked ≡ false → P (acceptedCancel k id (o .number) (Mark at)))
+      → ((at : ℕ) (o : Open) → here ≡ held.In at o → o .marked ≡ false → P (acceptedCancel k id (o .number) (Mark at)))
+      → ((at : ℕ) (o : Open) → here ≡ held.Out at o → o .marked ≡ false → P (acceptedCancel k id (o .number) (Mark at))) → P (cancelled k id here)
   cancelled-has id held.Nothing h x y z = h
-  cancelled-has id (held.Io at o) h x y z = x at o refl
-  cancelled-has id (held.In at o) h x y z = y at o refl
-  cancelled-has id (held.Out at o) h x y z = z at o refl
+  cancelled-has id (held.Io at o) h x y z = marks-has id at o h (x at o refl)
+  cancelled-has id (held.In at o) h x y z = marks-has id at o h (y at o refl)
+  cancelled-has id (held.Out at o) h x y z = marks-has id at o h (z at o refl)

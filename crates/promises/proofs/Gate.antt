@@ -11,12 +11,13 @@ use Rattle.table.specs.Entry.{answerOf, judgedEntry}
 use Rattle.places.specs.Place.{ofSide}
 use Rattle.journal.specs.Calls.{Asks, judging, closing}
 use Rattle.order.specs.Machine.{Machine}
-use Rattle.promises.specs.Demand3.{renChannel}
+use Rattle.promises.specs.Demand3.{renChannel, renOpen}
 use Rattle.promises.specs.Gate.{gateStep, Gave, inside, outside, Place, renGave, renPlace, saidGave, unplacedGave}
-use Rattle.promises.proofs.GateLaw.{after-ren, count-ren, free-rows-ren, renVerdict, verdict-ren}
+use Rattle.promises.proofs.GateLaw.{after-ren, renVerdict, verdict-ren}
+use Rattle.promises.proofs.InRow.{count-in, free-rows}
 
 pub new-ren : (f : ℕ → ℕ) → renChannel f newChannel ≡ newChannel
-new-ren f = rw (free-rows-ren f 16)
+new-ren f = rw (free-rows (renOpen f) 16)
 
 pub stays : (n : ℕ) (a : Asks) → gateStep n outside a .1 ≡ outside
 stays n (judging side stamp m) = refl
@@ -39,7 +40,7 @@ law f z n (inside c) (judging side stamp m) =
     by-side f (ofSide side) _ _ (saidGave side stamp m (verdictOf c n side m), inside (afterOf c (verdictOf c n side m))) (unplacedGave side stamp, inside c)
     (rw (verdict-ren f z c n side m, said-ren f z side stamp m (verdictOf c n side m), after-ren f c (verdictOf c n side m)))
     (rw z)
-law f z n (inside c) (closing stamp) = rw (count-ren f (c .rows), z, free-rows-ren f 16)
+law f z n (inside c) (closing stamp) = rw (count-in (renOpen f) (c .rows), z, free-rows (renOpen f) 16)
 
 abbrev pub gate : Machine
 gate = record {

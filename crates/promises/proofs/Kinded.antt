@@ -57,19 +57,23 @@ use Rattle.promises.specs.Names.{ioKind}
 
 -- none of the completions
 abbrev pub NoCompletion : ℕ → Type 0
-NoCompletion n = 15 ≤ n → n ≤ 17 → ⊥
+NoCompletion n = (15 ≤ n) × (n ≤ 17) → ⊥
+
+-- nor a retract or a close: the kinds up to 13
+abbrev pub Quiet : ℕ → Type 0
+Quiet n = n ≤ 13
 
 abbrev pub Kinded : ℕ → Asked → Type 0
 Kinded n (Fails fault) = Unit {0}
 Kinded n Value = Unit {0}
-Kinded n Step = NoCompletion n
-Kinded n (Device id ms) = NoCompletion n
-Kinded n (Callback known) = NoCompletion n
+Kinded n Step = Quiet n
+Kinded n (Device id ms) = Quiet n
+Kinded n (Callback known) = Quiet n
 Kinded n (IoControl r) = ioKind n ≡ true
 Kinded n (TransferIn r) = n ≡ 10
 Kinded n (TransferOut r) = n ≡ 11
 Kinded n (Cancel id) = n ≡ 13
-Kinded n Retract = NoCompletion n
+Kinded n Retract = n ≡ 14
 Kinded n (IoCompletion c) = n ≡ 15
 Kinded n (UrbCompletion c) = n ≡ 16
 Kinded n (UrbCompletionNoData c) = n ≡ 17
@@ -78,23 +82,23 @@ checked : (n : ℕ) (t : Bool) (a : Asked) → Kinded n a → Kinded n (cond t a
 checked n true a h = h
 checked n false a h = tt
 
-capability-request-kinded : (n : ℕ) → (NoCompletion n) → (r : CapabilityRequestRead) → Kinded n (asksBy (capabilityRequestReading r))
+capability-request-kinded : (n : ℕ) → (Quiet n) → (r : CapabilityRequestRead) → Kinded n (asksBy (capabilityRequestReading r))
 capability-request-kinded n h (capabilityRequest.Fits b) = checked n (capabilityRequestAllowed b) _ h
 capability-request-kinded n h (capabilityRequest.Fails f) = tt
 
-capability-response-kinded : (n : ℕ) → (NoCompletion n) → (r : CapabilityResponseRead) → Kinded n (asksBy (capabilityResponseReading r))
+capability-response-kinded : (n : ℕ) → (Quiet n) → (r : CapabilityResponseRead) → Kinded n (asksBy (capabilityResponseReading r))
 capability-response-kinded n h (capabilityResponse.Fits b) = checked n (capabilityResponseAllowed b) _ h
 capability-response-kinded n h (capabilityResponse.Fails f) = tt
 
-channel-created-kinded : (n : ℕ) → (NoCompletion n) → (r : ChannelCreatedRead) → Kinded n (asksBy (channelCreatedReading r))
+channel-created-kinded : (n : ℕ) → (Quiet n) → (r : ChannelCreatedRead) → Kinded n (asksBy (channelCreatedReading r))
 channel-created-kinded n h (channelCreated.Fits b) = checked n (channelCreatedAllowed b) _ h
 channel-created-kinded n h (channelCreated.Fails f) = tt
 
-add-virtual-channel-kinded : (n : ℕ) → (NoCompletion n) → (r : AddVirtualChannelRead) → Kinded n (asksBy (addVirtualChannelReading r))
+add-virtual-channel-kinded : (n : ℕ) → (Quiet n) → (r : AddVirtualChannelRead) → Kinded n (asksBy (addVirtualChannelReading r))
 add-virtual-channel-kinded n h addVirtualChannel.Fits = h
 add-virtual-channel-kinded n h (addVirtualChannel.Fails f) = tt
 
-add-device-kinded : (n : ℕ) → (NoCompletion n) → (r : AddDeviceRead) → Kinded n (asksBy (addDeviceReading r))
+add-device-kinded : (n : ℕ) → (Quiet n) → (r : AddDeviceRead) → Kinded n (asksBy (addDeviceReading r))
 add-device-kinded n h (addDevice.Fits b) = checked n (addDeviceAllowed b) _ h
 add-device-kinded n h (addDevice.Fails f) = tt
 
@@ -102,7 +106,7 @@ cancel-request-kinded : (n : ℕ) → (n ≡ 13) → (r : CancelRequestRead) →
 cancel-request-kinded n h (cancelRequest.Fits b) = h
 cancel-request-kinded n h (cancelRequest.Fails f) = tt
 
-register-request-callback-kinded : (n : ℕ) → (NoCompletion n) → (r : RegisterRequestCallbackRead) → Kinded n (asksBy (registerRequestCallbackReading r))
+register-request-callback-kinded : (n : ℕ) → (Quiet n) → (r : RegisterRequestCallbackRead) → Kinded n (asksBy (registerRequestCallbackReading r))
 register-request-callback-kinded n h (registerRequestCallback.Fits b) = checked n (registerRequestCallbackAllowed b) _ h
 register-request-callback-kinded n h (registerRequestCallback.Fails f) = tt
 
@@ -118,7 +122,7 @@ transfer-out-request-kinded : (n : ℕ) → (n ≡ 11) → (r : TransferOutReque
 transfer-out-request-kinded n h (transferOutRequest.Fits b) = checked n (transferOutRequestAllowed b) _ h
 transfer-out-request-kinded n h (transferOutRequest.Fails f) = tt
 
-retract-device-kinded : (n : ℕ) → (NoCompletion n) → (r : RetractDeviceRead) → Kinded n (asksBy (retractDeviceReading r))
+retract-device-kinded : (n : ℕ) → (n ≡ 14) → (r : RetractDeviceRead) → Kinded n (asksBy (retractDeviceReading r))
 retract-device-kinded n h (retractDevice.Fits b) = checked n (retractDeviceAllowed b) _ h
 retract-device-kinded n h (retractDevice.Fails f) = tt
 
@@ -136,19 +140,19 @@ urb-completion-no-data-kinded n h (urbCompletionNoData.Fails f) = tt
 
 pub kinded : (k : Kind) (m : List ℕ) → Kinded (kindNumber k) (askedOf k m)
 unfolding askedOf readingOf
-kinded kind.CapabilityRequest m = capability-request-kinded 1 (λ l u. omega arith) (capabilityRequestOf m)
-kinded kind.CapabilityResponse m = capability-response-kinded 2 (λ l u. omega arith) (capabilityResponseOf m)
-kinded kind.ChannelCreatedByServer m = channel-created-kinded 3 (λ l u. omega arith) (channelCreatedOf m)
-kinded kind.ChannelCreatedByClient m = channel-created-kinded 4 (λ l u. omega arith) (channelCreatedOf m)
-kinded kind.AddVirtualChannel m = add-virtual-channel-kinded 5 (λ l u. omega arith) (addVirtualChannelOf m)
-kinded kind.AddDevice m = add-device-kinded 6 (λ l u. omega arith) (addDeviceOf m)
+kinded kind.CapabilityRequest m = capability-request-kinded 1 (omega arith) (capabilityRequestOf m)
+kinded kind.CapabilityResponse m = capability-response-kinded 2 (omega arith) (capabilityResponseOf m)
+kinded kind.ChannelCreatedByServer m = channel-created-kinded 3 (omega arith) (channelCreatedOf m)
+kinded kind.ChannelCreatedByClient m = channel-created-kinded 4 (omega arith) (channelCreatedOf m)
+kinded kind.AddVirtualChannel m = add-virtual-channel-kinded 5 (omega arith) (addVirtualChannelOf m)
+kinded kind.AddDevice m = add-device-kinded 6 (omega arith) (addDeviceOf m)
 kinded kind.CancelRequest m = cancel-request-kinded 13 refl (cancelRequestOf m)
-kinded kind.RegisterRequestCallback m = register-request-callback-kinded 7 (λ l u. omega arith) (registerRequestCallbackOf m)
+kinded kind.RegisterRequestCallback m = register-request-callback-kinded 7 (omega arith) (registerRequestCallbackOf m)
 kinded kind.IoControl m = io-control-kinded 8 refl (ioControlOf m)
 kinded kind.InternalIoControl m = io-control-kinded 9 refl (ioControlOf m)
 kinded kind.TransferInRequest m = transfer-in-request-kinded 10 refl (transferInRequestOf m)
 kinded kind.TransferOutRequest m = transfer-out-request-kinded 11 refl (transferOutRequestOf m)
-kinded kind.RetractDevice m = retract-device-kinded 14 (λ l u. omega arith) (retractDeviceOf m)
+kinded kind.RetractDevice m = retract-device-kinded 14 refl (retractDeviceOf m)
 kinded kind.IoControlCompletion m = io-control-completion-kinded 15 refl (ioControlCompletionOf m)
 kinded kind.UrbCompletion m = urb-completion-kinded 16 refl (urbCompletionOf m)
 kinded kind.UrbCompletionNoData m = urb-completion-no-data-kinded 17 refl (urbCompletionNoDataOf m)

@@ -7,6 +7,7 @@ pub mod Stamp
 pub mod Sound
 pub mod Cases
 pub mod FourPrograms
+pub mod InRow
 pub mod GateLaw
 pub mod Gate
 pub mod Runs
@@ -16,3 +17,4 @@ pub mod Kept
 pub mod Names
 pub mod Journalled
 pub mod Demand3
+pub mod Marks

@@ -17,7 +17,7 @@ use Rattle.wire.specs.declared.message.Asked.{Asked}
 use Rattle.wire.specs.declared.message.Asked.the-variants as asks
 use Rattle.wire.specs.declared.message.Request.{Request}
 use Rattle.wire_laws.proofs.Assigned.{assigned}
-use Rattle.channel.specs.Rows.{freeRow, newChannel, withRow}
+use Rattle.channel.specs.Rows.{freeRow, inSort, markedRow, markedOpen, newChannel, withMark, withRow}
 use Rattle.rows.specs.Search.{lowestOf}
 use Rattle.requests.specs.Held.{heldOf, holds, holdsBy}
 use Rattle.channel.specs.declared.row.Row.{Row}
@@ -44,6 +44,7 @@ use Rattle.table.specs.declared.table.Judged.{Judged}
 use Rattle.table.specs.declared.table.Table.{Table}
 use Rattle.journal.specs.Calls.{after, Asks, Call, called, calledBy, closing, judging}
 use Rattle.promises.proofs.Admitted.{admitted-has}
+use Rattle.promises.proofs.InRow.{holds-in}
 use Rattle.promises.proofs.Decided.{cancelled-has, io-has, no-data-has, out-has, taken-has, urb-has}
 use Rattle.promises.specs.Sound.{Numbered, rowOf, Sound, SoundChannel}
 
@@ -54,6 +55,7 @@ Fits c n (act.Device id ms) = Given (known.Is id)
 Fits c n (act.Callback known) = Given known
 Fits c n (act.Take at row) = Numbered (n + 1) (row .sort) × ((id : RequestId) → holds id row ≡ true → (i : ℕ) → holds id (rowOf c i) ≡ false)
 Fits c n (act.Free at) = Unit {0}
+Fits c n (act.Mark at) = Unit {0}
 Fits c n act.Empty = Unit {0}
 
 abbrev Safe : Channel → ℕ → Verdict → Type 0
@@ -81,7 +83,7 @@ decided-safe c n k (asks.TransferIn r) h g =
     taken-has (Safe c n) k (λ b q. tt) r (In (opened r n)) (heldOf c (r .request)) (lowestOf c) (λ at e. ((h, omega arith), alone c r (In (opened r n)) (names-it r) e))
 decided-safe c n k (asks.TransferOut r) h g =
     out-has (Safe c n) k (λ b q. tt) r n (c .jitter) (heldOf c (r .request)) (lowestOf c) tt (λ at e. ((h, omega arith), alone c r (Out (opened r n)) (names-it r) e))
-decided-safe c n k (asks.Cancel id) h g = cancelled-has (Safe c n) k (λ b q. tt) id (heldOf c id) tt (λ at o e. tt) (λ at o e. tt) (λ at o e. tt)
+decided-safe c n k (asks.Cancel id) h g = cancelled-has (Safe c n) k (λ b q. tt) id (heldOf c id) tt (λ at o e m. tt) (λ at o e m. tt) (λ at o e m. tt)
 decided-safe c n k asks.Retract h g = tt
 decided-safe c n k (asks.IoCompletion d) h g = io-has (Safe c n) k (λ b q. tt) d (heldOf c (d .request)) (λ at o e. tt)
 decided-safe c n k (asks.UrbCompletion d) h g = urb-has (Safe c n) k (λ b q. tt) d (heldOf c (d .request)) (λ at o e. tt)
@@ -136,6 +138,32 @@ put n c at row s num alone = record {
     apart id i j p q (inr e) (inl f) = absurd (true≢false (sym q ∙ ap (holds id) f ∙ alone id (ap (holds id) (sym (e .1)) ∙ p) j))
     apart id i j p q (inr e) (inr f) = sym (e .0) ∙ f .0
 
+-- a marked row has the number that it had
+marked-number : (n : ℕ) (s : Sort) → Numbered n s → Numbered n (inSort markedOpen s)
+marked-number n Free h = h
+marked-number n (Io o) h = h
+marked-number n (In o) h = h
+marked-number n (Out o) h = h
+
+mark : (n : ℕ) (c : Channel) (at : ℕ) → SoundChannel n c → SoundChannel (n + 1) (withMark c at)
+mark n c at s = record {
+  device = s .device;
+  callback = s .callback;
+  numbers = λ i. number i (set-read (c .rows) at (markedRow (rowOf c at)) i freeRow);
+  once = λ id i j p q. s .once id i j (sym (holds-as id i (set-read (c .rows) at (markedRow (rowOf c at)) i freeRow)) ∙ p) (sym (holds-as id j (set-read (c .rows) at (markedRow (rowOf c at)) j freeRow)) ∙ q);
+}
+  where
+    now : ℕ → Row
+    now i = getD (set (c .rows) at (markedRow (rowOf c at))) i freeRow
+
+    number : (i : ℕ) → (now i ≡ rowOf c i) ⊎ ((at ≡ i) × (now i ≡ markedRow (rowOf c at))) → Numbered (n + 1) (now i .sort)
+    number i (inl e) = subst (λ r. Numbered (n + 1) (r .sort)) (sym e) (older n (rowOf c i .sort) (s .numbers i))
+    number i (inr e) = subst (λ r. Numbered (n + 1) (r .sort)) (sym (e .1)) (marked-number (n + 1) (rowOf c at .sort) (older n (rowOf c at .sort) (s .numbers at)))
+
+    holds-as : (id : RequestId) (i : ℕ) → (now i ≡ rowOf c i) ⊎ ((at ≡ i) × (now i ≡ markedRow (rowOf c at))) → holds id (now i) ≡ holds id (rowOf c i)
+    holds-as id i (inl e) = ap (holds id) e
+    holds-as id i (inr e) = ap (holds id) (e .1) ∙ holds-in markedOpen (λ o. refl) id (rowOf c at .sort) ∙ ap (λ k. holds id (rowOf c k)) (e .0)
+
 empty-number : (n i : ℕ) → Numbered n (getD (replicate 16 freeRow) i freeRow .sort)
 empty-number n i = subst (λ r. Numbered n (r .sort)) (sym (all-alike 16 freeRow i)) tt
 
@@ -152,6 +180,7 @@ acted n c phase (act.Take at row) s f =
 acted n c phase (act.Free at) s f =
     let r = put n c at freeRow s tt (λ id p. absurd (true≢false (sym p))) in
     record { device = r .device; callback = r .callback; numbers = r .numbers; once = r .once }
+acted n c phase (act.Mark at) s f = let r = mark n c at s in record { device = r .device; callback = r .callback; numbers = r .numbers; once = r .once }
 acted n c phase act.Empty s f =
     record { device = s .device; callback = s .callback; numbers = empty-number (n + 1); once = λ id i j p q. absurd (empty-holds id i p) }
 

@@ -1,16 +1,15 @@
 -- Demand 3, whole: reorder the calls of a run, each channel's order kept, and there are the same answers, payloads, entries and rows but for numbers, and each cause names the same call;
--- and in either journal every accepted completion names one earlier accepted request of its channel, and no two the same.
+-- and in either journal every accepted completion names one earlier accepted request of its channel, and, as 02 R-2 has it, of those that name one request at most one is a cancel and at most one a
+-- completion; no cancel names a request after its completion; and no accepted retract or close of its channel stands between a request and an entry that names it.
 use Prim.Native.Nat.{ℕ, zero, suc}
 use mathlib.Core.Path.{_≡_}
 use mathlib.Core.List.{List, [], _∷_, map}
 use lib.Dec.{eqb}
 use lib.ListN.{getD, length}
-use Rattle.channel.specs.Rows.{withRows}
+use Rattle.channel.specs.Rows.{inChannel, inRow}
 use Rattle.channel.specs.declared.channel.Channel.{Channel}
 use Rattle.channel.specs.declared.row.Open.{Open}
 use Rattle.channel.specs.declared.row.Row.{Row}
-use Rattle.channel.specs.declared.row.Sort.{Sort}
-use Rattle.channel.specs.declared.row.Sort.the-variants.{Free, Io, In, Out}
 use Rattle.answers.specs.declared.answer.Answer.{Answer}
 use Rattle.answers.specs.declared.entry.Entry.{Entry}
 use Rattle.answers.specs.declared.entry.Noted.{Noted}
@@ -89,19 +88,13 @@ abbrev pub renDone : (ℕ → ℕ) → Done → Done
 renDone f d = record { channel = d .channel; answer = d .answer; entry = renNoted f (d .entry); payload = d .payload; start = d .start }
 
 abbrev pub renOpen : (ℕ → ℕ) → Open → Open
-renOpen f o = record { request = o .request; number = f (o .number); size = o .size }
-
-abbrev pub renSort : (ℕ → ℕ) → Sort → Sort
-renSort f Free = Free
-renSort f (Io o) = Io (renOpen f o)
-renSort f (In o) = In (renOpen f o)
-renSort f (Out o) = Out (renOpen f o)
+renOpen f o = record { request = o .request; number = f (o .number); size = o .size; marked = o .marked }
 
 abbrev pub renRow : (ℕ → ℕ) → Row → Row
-renRow f r = record { sort = renSort f (r .sort) }
+renRow f r = inRow (renOpen f) r
 
 abbrev pub renChannel : (ℕ → ℕ) → Channel → Channel
-renChannel f c = withRows c (map (renRow f) (c .rows))
+renChannel f c = inChannel (renOpen f) c
 
 -- ---- the demand
 -- n, n + 1, and so on, so many
@@ -114,7 +107,7 @@ pub record Journalled (k : ℕ) (xs : List Call) : Type 0 where
   -- it is the entries of the calls in their order, one for each, with the numbers k, k + 1, and so on
   pub entries : journalOf (openOf k) xs ≡ entriesOf (run (openOf k) xs)
   pub numbers : map (λ (e : Entry). e .number) (journalOf (openOf k) xs) ≡ upFrom k (length xs)
-  -- every accepted completion names one earlier accepted request of its channel, and no two entries name the same
+  -- and which entry names which
   pub names : AllName [] (journalOf (openOf k) xs)
 
 pub record Demand3 (k : ℕ) (xs ys : List Call) (f : ℕ → ℕ) : Type 0 where

@@ -6,3 +6,4 @@ pub mod Demand3
 pub mod Cases
 pub mod FourPrograms
 pub mod Gate
+pub mod Marks

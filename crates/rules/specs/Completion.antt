@@ -1,4 +1,4 @@
--- 01 "Completions, cancel, retract".
+-- 01 "Completions, cancel, retract": completions. A mark enters no answer (02 R-2): a completion of a marked row is judged as ever, and frees it.
 use Prim.Native.Nat.{ℕ}
 use mathlib.Core.Bool.{Bool, cond}
 use lib.Dec.{ltb, eqb}
@@ -6,7 +6,6 @@ use Rattle.words.specs.Hresult.{succeeded}
 use Rattle.header.specs.declared.ids.RequestId.{RequestId}
 use Rattle.answers.specs.declared.kind.Kind.{Kind}
 use Rattle.words.specs.declared.layout.Part.{Part}
-use Rattle.wire.specs.Message.{emptyPart}
 use Rattle.wire.specs.declared.message.IoCompleted.{IoCompleted}
 use Rattle.wire.specs.declared.message.UrbCompleted.{UrbCompleted}
 use Rattle.channel.specs.declared.row.Open.{Open}
@@ -14,7 +13,7 @@ use Rattle.requests.specs.declared.open.Held.{Held}
 use Rattle.requests.specs.declared.open.Held.the-variants.{Nothing, Io, In, Out}
 use Rattle.rules.specs.Verdict.{accepted, refused}
 use Rattle.answers.specs.declared.answer.Answer.the-variants.{NotOpen, WrongSort, TooMuch, ResultDisagrees}
-use Rattle.rules.specs.declared.verdict.Act.the-variants.{Keep, Free}
+use Rattle.rules.specs.declared.verdict.Act.the-variants.{Free}
 use Rattle.rules.specs.declared.verdict.Verdict.{Verdict}
 
 -- the request's row is freed, and the number of the request's entry is the cause
@@ -59,10 +58,3 @@ noDataCompleted kind c Nothing = refused kind NotOpen
 noDataCompleted kind c (Io at o) = refused kind WrongSort
 noDataCompleted kind c (In at o) = urbClosed kind c 0 at o
 noDataCompleted kind c (Out at o) = urbClosed kind c (o .size) at o
-
--- a cancel of an open id closes its row at once; of any other id it is accepted and does nothing
-abbrev pub cancelled : Kind → RequestId → Held → Verdict
-cancelled kind id Nothing = accepted kind (id .0) 0 0 emptyPart Keep
-cancelled kind id (Io at o) = closes kind at o id 0 emptyPart
-cancelled kind id (In at o) = closes kind at o id 0 emptyPart
-cancelled kind id (Out at o) = closes kind at o id 0 emptyPart

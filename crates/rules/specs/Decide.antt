@@ -7,7 +7,8 @@ use Rattle.wire.specs.declared.message.Asked.the-variants as asks
 use Rattle.channel.specs.declared.row.Sort.the-variants.{Io, In}
 use Rattle.rules.specs.Verdict.{accepted, refused}
 use Rattle.rules.specs.Request.{opened, taken, transferOutDecided}
-use Rattle.rules.specs.Completion.{cancelled, ioCompleted, urbCompleted, noDataCompleted}
+use Rattle.rules.specs.Cancel.{cancelled}
+use Rattle.rules.specs.Completion.{ioCompleted, urbCompleted, noDataCompleted}
 use Rattle.answers.specs.declared.answer.Answer.the-variants.{Sizes, Value}
 use Rattle.rules.specs.declared.decide.Seen.{Seen}
 use Rattle.rules.specs.declared.verdict.Act.the-variants.{Keep, Device, Callback, Empty}

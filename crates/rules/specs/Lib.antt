@@ -1,3 +1,4 @@
+pub mod Cancel
 pub mod Verdict
 pub mod Request
 pub mod Completion

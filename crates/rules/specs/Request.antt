@@ -1,6 +1,6 @@
 -- Requests, kinds 8 to 12: answers 9 and 10, the row that a request takes, and NoAck.
 use Prim.Native.Nat.{ℕ}
-use mathlib.Core.Bool.{cond}
+use mathlib.Core.Bool.{cond, false}
 use lib.Dec.{eqb}
 use Rattle.answers.specs.declared.kind.Kind.{Kind}
 use Rattle.wire.specs.declared.message.Request.{Request}
@@ -18,9 +18,9 @@ use Rattle.rules.specs.declared.verdict.Act.the-variants.{Keep, Take}
 use Rattle.rules.specs.declared.verdict.Verdict.{Verdict}
 use Rattle.rules.specs.declared.verdict.Verdict.the-variants.{Accepted}
 
--- an open request: its id, the number of its entry, and the OutputBufferSize that its completion is held to
+-- an open request: its id, the number of its entry, and the OutputBufferSize that its completion is held to; no cancel has marked it yet
 unfoldable pub opened : Request → ℕ → Open
-opened r number = record { request = r .request; number = number; size = r .size }
+opened r number = record { request = r .request; number = number; size = r .size; marked = false }
 
 -- 10: all rows open; else the lowest free row is taken
 abbrev pub takenAt : Kind → Request → Sort → Found → Verdict

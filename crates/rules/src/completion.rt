@@ -12,7 +12,7 @@ use wire::message::UrbCompleted;
 use words::hresult;
 use words::layout::Part;
 ghost use mathlib.Core.Path.{_≡_};
-ghost use Rattle.rules.specs.Completion.{resultAgrees, cancelled, closes, ioClosed, ioCompleted, noDataCompleted, urbClosed, urbCompleted};
+ghost use Rattle.rules.specs.Completion.{resultAgrees, closes, ioClosed, ioCompleted, noDataCompleted, urbClosed, urbCompleted};
 
 pub(crate) struct InsufficientBuffer {}
 
@@ -99,18 +99,5 @@ pub(crate) fn urb_no_data(kind: Kind, c: UrbCompleted, here: Held) -> Verdict
         Held::Io(_, _) => verdict::refuse(kind, Answer::WrongSort),
         Held::In(at, o) => urb_close(kind, c, 0, at, o),
         Held::Out(at, o) => urb_close(kind, c, o.size, at, o),
-    }
-}
-
-// A cancel closes the row of an open id at once; of any other id it does nothing.
-pub(crate) fn cancel(kind: Kind, id: RequestId, here: Held) -> Verdict
-    ensures { λ v. ⌜ v ≡ cancelled kind id here ⌝ }
-{
-    let nothing = Part { start: 0, size: 0 };
-    match here {
-        Held::Nothing => verdict::accept(kind, id.number(), 0, 0, nothing, Act::Keep),
-        Held::Io(at, o) => close(kind, at, o, id, 0, nothing),
-        Held::In(at, o) => close(kind, at, o, id, 0, nothing),
-        Held::Out(at, o) => close(kind, at, o, id, 0, nothing),
     }
 }

@@ -1,4 +1,5 @@
 // The rules' one call: what a message asks, and what was found in the channel's rows, give the answer (7 to 14, 0), the entry and what is done.
+use crate::cancel;
 use crate::completion;
 use crate::request;
 use crate::verdict;
@@ -43,7 +44,7 @@ pub fn decide(kind: Kind, asked: Asked, number: u32, jitter: u32, seen: Seen) ->
             request::take(kind, r, Sort::In(into), here, free)
         }
         Asked::TransferOut(r) => request::transfer_out(kind, r, number, jitter, here, free),
-        Asked::Cancel(id) => completion::cancel(kind, id, here),
+        Asked::Cancel(id) => cancel::cancel(kind, id, here),
         Asked::Retract => verdict::accept(kind, 0, 0, seen.count, nothing, Act::Empty),
         Asked::IoCompletion(c) => completion::io(kind, c, here),
         Asked::UrbCompletion(c) => completion::urb(kind, c, here),

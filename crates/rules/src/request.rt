@@ -22,7 +22,7 @@ impl NoAck {
     pub(crate) const KIND: u8 = 12;
 }
 
-// The open request that a row holds from here on, until it is completed, cancelled or withdrawn.
+// The open request that a row holds from here on, until it is completed or withdrawn.
 pub(crate) fn open_as(r: Request, number: u32) -> Open
     ensures { λ o. ⌜ o ≡ opened r number ⌝ }
 {
@@ -31,6 +31,7 @@ pub(crate) fn open_as(r: Request, number: u32) -> Open
         request: request,
         number: number,
         size: r.size,
+        marked: false,
     }
 }
 

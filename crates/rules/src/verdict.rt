@@ -18,8 +18,10 @@ pub enum Act {
     Callback(Known),
     // a request takes a free row
     Take(usize, Row),
-    // a completion or a cancel frees one
+    // a completion frees one
     Free(usize),
+    // a cancel marks one (02 R-2)
+    Mark(usize),
     Empty,
 }
 

@@ -3,7 +3,7 @@ use Prim.Native.Nat.{ℕ}
 use Rattle.header.specs.declared.ids.Known.the-variants.{Is}
 use Rattle.wire.specs.declared.message.Asked.{Asked}
 use Rattle.wire.specs.declared.message.Asked.the-variants as asks
-use Rattle.channel.specs.Rows.{freeRow, withRow, emptied}
+use Rattle.channel.specs.Rows.{freeRow, withRow, withMark, emptied}
 use Rattle.rows.specs.Search.{lowestOf, openCount}
 use Rattle.requests.specs.Held.{heldOf}
 use Rattle.channel.specs.declared.channel.Channel.{Channel}
@@ -11,7 +11,7 @@ use Rattle.requests.specs.declared.open.Held.{Held}
 use Rattle.requests.specs.declared.open.Held.the-variants.{Nothing}
 use Rattle.rules.specs.declared.decide.Seen.{Seen}
 use Rattle.rules.specs.declared.verdict.Act.{Act}
-use Rattle.rules.specs.declared.verdict.Act.the-variants.{Keep, Device, Callback, Take, Free, Empty}
+use Rattle.rules.specs.declared.verdict.Act.the-variants.{Keep, Device, Callback, Take, Free, Mark, Empty}
 
 -- what is open under the RequestId that the message carries, if it carries one
 unfoldable pub hereOf : Channel → Asked → Held
@@ -38,6 +38,7 @@ done c (Device id ms) = record { phase = c .phase; device = Is id; callback = c 
 done c (Callback known) = record { phase = c .phase; device = c .device; callback = known; jitter = c .jitter; rows = c .rows }
 done c (Take at row) = withRow c at row
 done c (Free at) = withRow c at freeRow
+done c (Mark at) = withMark c at
 done c Empty = emptied c
 
 abbrev pub inPhase : Channel → ℕ → Channel

@@ -1,6 +1,7 @@
 // What is found in a channel's rows, and what is done to the channel.
 use channel::channel::Channel;
 use channel::channel::empty;
+use channel::channel::mark;
 use channel::channel::put;
 use channel::row::Row;
 use channel::row::Sort;
@@ -80,6 +81,7 @@ pub(crate) fn act_on(c: Channel, act: Act) -> Channel
             let row = Row { sort: Sort::Free };
             put(c, at, row)
         }
+        Act::Mark(at) => mark(c, at),
         Act::Empty => empty(c),
     }
 }

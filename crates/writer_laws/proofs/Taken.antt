@@ -74,7 +74,8 @@ use Rattle.requests.specs.declared.open.Held.{Held}
 use Rattle.requests.specs.declared.open.Held.the-variants as held
 use Rattle.rules.specs.Decide.{decided}
 use Rattle.rules.specs.Request.{opened, taken}
-use Rattle.rules.specs.Completion.{cancelled, ioClosed, ioCompleted, noDataCompleted, resultAgrees, urbClosed, urbCompleted}
+use Rattle.rules.specs.Cancel.{cancelled}
+use Rattle.rules.specs.Completion.{ioClosed, ioCompleted, noDataCompleted, resultAgrees, urbClosed, urbCompleted}
 use Rattle.rules.specs.declared.decide.Seen.{Seen}
 use Rattle.rules.specs.declared.verdict.Verdict.{Verdict}
 use Rattle.turn.specs.Admit.{admitted, asksAs, asksIn, fromHead, fromHeader}
@@ -127,9 +128,9 @@ no-data-passes k c (held.Out at o) = closed-passes k c (o .size) at o
 cancel-passes : (k : Kind) (id : RequestId) (here : Held) → PassesBy (cancelled k id here)
 unfolding answerOf
 cancel-passes k id held.Nothing = inl refl
-cancel-passes k id (held.Io at o) = inl refl
-cancel-passes k id (held.In at o) = inl refl
-cancel-passes k id (held.Out at o) = inl refl
+cancel-passes k id (held.Io at o) = either PassesBy (o .marked) _ _ (λ e. inl refl) (λ e. inl refl)
+cancel-passes k id (held.In at o) = either PassesBy (o .marked) _ _ (λ e. inl refl) (λ e. inl refl)
+cancel-passes k id (held.Out at o) = either PassesBy (o .marked) _ _ (λ e. inl refl) (λ e. inl refl)
 
 -- a transfer out with NoAck needs milliseconds
 abbrev pub NoAckAllowed : ℕ → Asked → Type 0

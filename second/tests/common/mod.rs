@@ -122,6 +122,11 @@ pub fn isoch(packets: u32, written: usize) -> Vec<u8> {
     rest
 }
 
+/// Kind 13 of device 4.
+pub fn cancel(request: u32) -> Vec<u8> {
+    words(&[0x4000_0004, 0, 0x100, request])
+}
+
 /// Kind 15 to callback 5.
 pub fn io_done(request: u32, hresult: u32, information: u32, data: &[u8]) -> Vec<u8> {
     let size = data.len() as u32;
