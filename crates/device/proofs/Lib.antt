@@ -1,1 +1,4 @@
 pub mod Determined
+pub mod Laws
+pub mod Same
+pub mod Walk

@@ -1,1 +1,2 @@
 pub mod DeviceCapabilities
+pub mod Former

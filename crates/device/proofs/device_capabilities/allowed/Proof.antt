@@ -1,8 +1,7 @@
--- `device::device_capabilities::allowed` meets its contract: at each `return` the tests and calls before it say which case of the definition holds.
+-- `device::device_capabilities::allowed` meets its contract: by those of the two that it calls.
 use borrow.Author.Needs.{needs}
 use borrow.Author.Tests.{not-false, not-true}
 use Rattle.device.specs.DeviceCapabilities.{capabilitiesAllowed}
-use Rattle.words.proofs.Tests.{tests}
 use Rattle.device.proofs.device_capabilities.allowed.Statement.{statement}
 use Rattle.device.proofs.device_capabilities.allowed.Tie as tie
 
@@ -11,11 +10,7 @@ unfolding capabilitiesAllowed
 allowed-spec =
     tie.close
     (tie.spec
-    (λ c. search tests)
     (search needs)
-    (λ c. search (tests, ← (c .before .versions-allowed .ensures), not-true (c .before .versions-allowed .result) (c .if2 .taken)))
-    (λ c. search (tests, ← (c .before .before .before .versions-allowed .ensures), not-false (c .before .before .before .versions-allowed .result) (c .before .before .if2 .left)))
+    (λ c. rw (← (c .before .rows-allow .ensures), not-true (c .before .rows-allow .result) (c .if1 .taken)))
     (search needs)
-    (λ c. search (tests, ← (c .before .before .before .before .before .versions-allowed .ensures), not-false (c .before .before .before .before .before .versions-allowed .result) (c .before .before .before .before .if2 .left), ← (c .before .speed-allowed .ensures), not-true (c .before .speed-allowed .result) (c .if4 .taken)))
-    (search needs)
-    (λ c. search (tests, ← (c .before .before .before .before .before .before .versions-allowed .ensures), not-false (c .before .before .before .before .before .before .versions-allowed .result) (c .before .before .before .before .before .if2 .left), ← (c .before .before .speed-allowed .ensures), not-false (c .before .before .speed-allowed .result) (c .before .if4 .left), ← (c .jitter-allowed .ensures))))
+    (λ c. rw (← (c .before .before .rows-allow .ensures), not-false (c .before .before .rows-allow .result) (c .before .if1 .left), ← (c .speed-suits-bus .ensures))))
