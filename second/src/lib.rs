@@ -7,8 +7,9 @@
 //! and `capture` are "Journal" and "Listing". `maker` writes captures out of
 //! `proper` (messages as 01 wants them), `aims` (messages wrong in one chosen
 //! way), `late` (cancelled requests, 02 R-2) and `damage` (blind damage), all on
-//! top of `compose`; `tally` counts what a capture reaches, `situations` what it
-//! has of 02 R-2.
+//! top of `compose`; `capabilities` is a capture of its own for 000 2.2.11.
+//! `tally` counts what a capture reaches, `situations` what it has of 02 R-2 and
+//! `classes` what it has of 000 2.2.11.
 //!
 //! `writer` is 02 R-1: from the fields that `body` and `urb` read to the bytes
 //! of a message. `rebuild` makes the messages of a capture anew with it; `calls`
@@ -18,8 +19,10 @@
 pub mod aims;
 pub mod body;
 pub mod calls;
+pub mod capabilities;
 pub mod capture;
 pub mod chosen;
+pub mod classes;
 pub mod compose;
 pub mod damage;
 pub mod drawn;

@@ -1,13 +1,15 @@
 use std::io::{self, Read, Write};
 use std::process::ExitCode;
 
-use second::{calls, capture, chosen, drawn, maker, rebuild, tally};
+use second::{calls, capabilities, capture, chosen, drawn, maker, rebuild, tally};
 
 const USAGE: &str = "\
 second list [--first N]    the listing of a capture
 second payloads            length and Adler-32 of each call's payload
 second make SEED CALLS     a capture on standard output
-second tally               kinds, answers and situations that a capture reaches
+second capabilities        a capture that goes through 000 2.2.11
+second tally               kinds, answers, situations and classes of
+                           capabilities that a capture reaches
 second record N            one record, counted from 1
 second rebuild             a capture with its messages made anew by the writer
 second calls               the chosen calls of the writer
@@ -48,6 +50,7 @@ fn run(arguments: &[&str]) -> Result<Vec<u8>, Failure> {
         }
         ["payloads"] => Ok(capture::payloads(&input()?).into_bytes()),
         ["make", seed, calls] => Ok(maker::make(number(seed)?, number(calls)?)),
+        ["capabilities"] => Ok(capabilities::capture()),
         ["rebuild"] => rebuild::rebuild(&input()?)
             .map_err(|record| Failure::Text(format!("record {record} cannot be made anew"))),
         ["calls"] => Ok(calls::file(&chosen::calls())),

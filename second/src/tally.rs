@@ -3,6 +3,7 @@
 use std::fmt::Write;
 
 use crate::capture::Capture;
+use crate::classes::{Class, Classes};
 use crate::kinds::CLOSE;
 use crate::rebuild;
 use crate::situations::{Situation, Situations};
@@ -44,6 +45,7 @@ pub struct Tally {
     /// what rebuilding has to change.
     pub padded: u64,
     pub situations: Situations,
+    pub classes: Classes,
     lengths: Vec<usize>,
     bytes: usize,
 }
@@ -68,6 +70,7 @@ impl Tally {
             pairs: [[0; ANSWERS]; KINDS],
             padded: changed(&capture, bytes),
             situations: Situations::default(),
+            classes: Classes::default(),
             lengths: Vec::new(),
             bytes: bytes.len(),
         };
@@ -82,6 +85,7 @@ impl Tally {
                 tally.calls += 1;
                 tally.pairs[usize::from(entry.kind)][usize::from(entry.answer)] += 1;
                 tally.situations.see(record, &entry);
+                tally.classes.see(record, &entry);
             }
         }
         tally.lengths.sort_unstable();
@@ -112,8 +116,7 @@ impl Tally {
         100.0 * count as f64 / (self.calls.max(1)) as f64
     }
 
-    pub fn print(&self) -> String {
-        let mut out = String::new();
+    fn print_sizes(&self, out: &mut String) {
         let middle = self
             .lengths
             .get(self.lengths.len() / 2)
@@ -125,7 +128,9 @@ impl Tally {
         let _ = writeln!(out, "message length: median {middle}, largest {largest}");
         let _ = writeln!(out, "ends short: {}", if self.short { "yes" } else { "no" });
         let _ = writeln!(out, "messages with padding to clear: {}", self.padded);
+    }
 
+    fn print_shares(&self, out: &mut String) {
         let _ = writeln!(out, "\nanswer   count   share");
         for answer in (0..ANSWERS).filter(|answer| *answer != 1) {
             let count = self.answer(answer);
@@ -141,6 +146,9 @@ impl Tally {
                 self.share(count)
             );
         }
+    }
+
+    fn print_pairs(&self, out: &mut String) {
         let _ = writeln!(out, "\npairs seen: kind, then answer:count");
         for (kind, row) in self.pairs.iter().enumerate() {
             let seen: Vec<String> = row
@@ -156,20 +164,37 @@ impl Tally {
             .iter()
             .map(|(kind, answer)| format!("({kind}, {answer})"))
             .collect();
-        let _ = writeln!(
-            out,
-            "\npossible pairs not seen: {}",
-            if unseen.is_empty() {
-                "none".to_string()
-            } else {
-                unseen.join(" ")
-            }
-        );
+        let unseen = if unseen.is_empty() {
+            "none".to_string()
+        } else {
+            unseen.join(" ")
+        };
+        let _ = writeln!(out, "\npossible pairs not seen: {unseen}");
+    }
+
+    fn print_reached(&self, out: &mut String) {
         let _ = writeln!(out, "\ncancelled requests (02 R-2): count, then situation");
         for situation in Situation::all() {
             let count = self.situations.count(situation);
             let _ = writeln!(out, "{count:>6}  {situation}");
         }
+        let _ = writeln!(
+            out,
+            "\ncapabilities (000 2.2.11): accepted, refused with 7, with 8, then class"
+        );
+        for class in Class::all() {
+            let [accepted, sizes, values] =
+                [0, 7, 8].map(|answer| self.classes.count(class, answer));
+            let _ = writeln!(out, "{accepted:>6} {sizes:>6} {values:>6}  {class}");
+        }
+    }
+
+    pub fn print(&self) -> String {
+        let mut out = String::new();
+        self.print_sizes(&mut out);
+        self.print_shares(&mut out);
+        self.print_pairs(&mut out);
+        self.print_reached(&mut out);
         out
     }
 }

@@ -218,6 +218,85 @@ fn capabilities_at_their_limits() {
     assert_eq!(slow, 0);
 }
 
+#[test]
+fn capabilities_are_compared_in_all_32_bits() {
+    let base: [u32; 7] = [28, 2, 0x600, 0x200, 0, 1, 10];
+    for (index, value) in base.into_iter().enumerate() {
+        for bit in 10..32 {
+            let other = value ^ 1 << bit;
+            let answer = device_answer(|message| {
+                let start = message.len() - 28 + 4 * index;
+                message[start..start + 4].copy_from_slice(&other.to_le_bytes());
+            });
+            assert_eq!(answer, 8, "{index} {other:x}");
+        }
+    }
+}
+
+#[test]
+fn speed_is_joined_with_the_bus_version_alone() {
+    let allowed = [(0, 0), (1, 0), (1, 1), (2, 0), (2, 1)];
+    for bus in 0..4 {
+        for speed in 0..3 {
+            let wanted = if allowed.contains(&(bus, speed)) {
+                0
+            } else {
+                8
+            };
+            for usbdi in [0x500, 0x600] {
+                for usb in [0x100, 0x110, 0x200] {
+                    let answer = device_answer(|message| {
+                        message.truncate(message.len() - 28);
+                        message.extend(words(&[28, bus, usbdi, usb, 0, speed, 0]));
+                    });
+                    assert_eq!(answer, wanted, "{bus} {usbdi:x} {usb:x} {speed}");
+                }
+            }
+        }
+    }
+}
+
+#[test]
+fn the_size_of_the_capabilities_does_not_move_their_end() {
+    let sized = |size: u32, length: usize| {
+        device_answer(|message| {
+            let start = message.len() - 28;
+            message[start..start + 4].copy_from_slice(&size.to_le_bytes());
+            message.resize(start + length, 0);
+        })
+    };
+    for size in [0, 4, 24, 27, 29, 32, 56] {
+        assert_eq!(sized(size, 28), 8, "{size}");
+        assert_eq!(sized(size, size as usize), 7, "{size}");
+        assert_eq!(sized(28, size as usize), 7, "{size}");
+    }
+    for length in 0..28 {
+        assert_eq!(sized(28, length), 7);
+        assert_eq!(sized(27, length), 7);
+    }
+}
+
+#[test]
+fn the_milliseconds_are_kept_as_sent() {
+    for ms in [0, 10, 11, 255, 256, 257, 511, 512] {
+        let mut table = in_phase(4, 0, 1);
+        let before = table.channels;
+        for barred in [9, 513, 0x8000_0000 | ms.max(1)] {
+            assert_eq!(answer(&mut table, 2, &add_device(barred)), 8);
+            assert_eq!(table.channels, before);
+        }
+        assert_eq!(answer(&mut table, 2, &add_device(ms)), 0);
+        assert_eq!(table.channels[0].no_ack_ms, ms);
+        // In another phase a device changes nothing.
+        for other in [0, 10, 512] {
+            assert_eq!(answer(&mut table, 2, &add_device(other)), 6);
+            assert_eq!(table.channels[0].no_ack_ms, ms);
+        }
+        table.close(0, 0);
+        assert_eq!(table.channels[0].no_ack_ms, 0);
+    }
+}
+
 fn with_texts(texts: [&[u16]; 4]) -> Vec<u8> {
     let mut message = words(&[0x4000_0001, 0, 0x101, 1, 4]);
     for text in texts {

@@ -1,4 +1,3 @@
 pub mod Determined
 pub mod Laws
-pub mod Same
 pub mod Walk

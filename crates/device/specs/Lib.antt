@@ -1,2 +1,1 @@
 pub mod DeviceCapabilities
-pub mod Former
