@@ -1,5 +1,7 @@
 // A test bench: a session of both ends, in which every message is written from field values and then judged on a table as its side sends it. What is printed is the listing
 // of the session (01 "Listing"), in which all are accepted.
+#![tactic(auto)]
+
 mod bytes;
 mod ids;
 mod io_controls;

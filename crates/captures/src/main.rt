@@ -1,5 +1,7 @@
 // The listings of several captures, one behind the other: of the files that the arguments name, and for `-` of standard input. Behind `--payloads`, which is any longer word that
 // begins like it, the payloads are listed instead.
+#![tactic(auto)]
+
 use listing::capture;
 use listing::capture::What;
 

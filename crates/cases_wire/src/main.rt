@@ -9,6 +9,8 @@
 //    7  callback             4
 //   11  size of the message  4
 //   15  message
+#![tactic(auto)]
+
 use header::ids::Known;
 use header::shared_msg_header;
 use header::shared_msg_header::HeaderRead;

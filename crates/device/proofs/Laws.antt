@@ -1,6 +1,6 @@
 -- What the rows say of a message: the field that a row names is the word at the row's offset, and capabilities are allowed by what the bytes are.
 use Prim.Native.Nat.{ℕ, ◌+◌}
-use native.Mathlib.Nat.{add_zero}
+use native.Mathlib.Nat.{add-zero}
 use native.Mathlib.Omega.{arith}
 use mathlib.Core.Path.{◌≡◌}
 use mathlib.Core.List.{List, map}
@@ -21,8 +21,8 @@ fitted false f d c behind end e = cc
 pub read_at_offsets : (m : List ℕ) (at end : ℕ) (c : DeviceCapabilities) → capabilities_of m at ≡ Fits c end
     → map (field_by c) capability_rows ≡ map (word_by m at) capability_rows
 unfolding capabilities_of capability_rows
-read_at_offsets m at end c e = rw (← (fitted (ltb (left m at) 28) _ _ c (at + 28) end e), add_zero at)
+read_at_offsets m at end c e = rw (← (fitted (ltb (left m at) 28) _ _ c (at + 28) end e), add-zero at)
 
 pub allowed_by_bytes : (m : List ℕ) (at end : ℕ) (c : DeviceCapabilities) → capabilities_of m at ≡ Fits c end → capabilities_allowed c ≡ rows_allow (word_by m at) capability_rows && speed_suits_bus (word_at m (at + 4)) (word_at m (at + 20))
 unfolding capabilities_of capability_rows capabilities_allowed rows_allow
-allowed_by_bytes m at end c e = rw (← (fitted (ltb (left m at) 28) _ _ c (at + 28) end e), add_zero at)
+allowed_by_bytes m at end c e = rw (← (fitted (ltb (left m at) 28) _ _ c (at + 28) end e), add-zero at)

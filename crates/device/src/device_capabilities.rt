@@ -73,6 +73,7 @@ pub enum CapabilitiesRead {
     Fails(Fault),
 }
 
+#[tactic(auto, unfolding(crate::specs::DeviceCapabilities::capabilities_of, crate::specs::DeviceCapabilities::capability_rows))]
 pub fn read(m: &[u8], at: usize) -> CapabilitiesRead
     ensures { result ≡ capabilities_of m.now at }
 {
@@ -103,6 +104,7 @@ fn word(m: &[u8], at: usize, k: usize) -> u32
     u32_at(m, at + rows[k].0)
 }
 
+#[tactic(auto, unfolding(crate::specs::DeviceCapabilities::capabilities_allowed))]
 pub fn allowed(c: DeviceCapabilities) -> bool
     ensures { result ≡ capabilities_allowed c }
 {
@@ -135,6 +137,7 @@ fn row_allows(row: Row, c: DeviceCapabilities) -> bool
     is_among(values, value_of(field, c))
 }
 
+#[tactic(auto, unfolding(crate::specs::DeviceCapabilities::capability_rows))]
 fn rows() -> [Row; 7]
     ensures { result ≡ capability_rows }
 {

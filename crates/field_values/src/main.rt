@@ -1,4 +1,6 @@
 // Says of each call on standard input what the writer makes of it, one line a call: FORMAT.md has both. It ends at the first call that is none, or that is cut.
+#![tactic(auto)]
+
 use header::ids::MessageId;
 use pieces::interface;
 use pieces::piece::Written;

@@ -33,6 +33,7 @@ fn capabilities(m: &[u8], at: usize) -> DeviceCapabilities
     }
 }
 
+#[tactic(auto, unfolding(crate::specs::AddDevice::add_device_in))]
 pub(crate) fn read(m: &[u8]) -> AddDeviceFields
     ensures { result ≡ add_device_in m.now }
 {

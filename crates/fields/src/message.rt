@@ -73,6 +73,7 @@ fn io_completion(m: &[u8]) -> IoControlCompletionFields
     }
 }
 
+#[tactic(auto, unfolding(crate::specs::Message::fields_in))]
 pub fn read(kind: Kind, m: &[u8]) -> Fields
     ensures { result ≡ fields_in kind m.now }
 {

@@ -87,6 +87,7 @@ fn urb_in(m: &[u8], n: u32) -> TsUrbFields
     from_read(m, ts_urb::read(&m[..end]))
 }
 
+#[tactic(auto, unfolding(crate::specs::Transfer::transfer_in))]
 pub(crate) fn read_in(m: &[u8]) -> TransferInFields
     ensures { result ≡ transfer_in m.now }
 {
@@ -97,6 +98,7 @@ pub(crate) fn read_in(m: &[u8]) -> TransferInFields
     }
 }
 
+#[tactic(auto, unfolding(crate::specs::Transfer::transfer_out))]
 pub(crate) fn read_out(m: &[u8]) -> TransferOutFields
     ensures { result ≡ transfer_out m.now }
 {

@@ -31,6 +31,7 @@ fn result(m: &[u8], n: u32) -> UrbResultFields
     }
 }
 
+#[tactic(auto, unfolding(crate::specs::UrbCompletion::urb_completion_in))]
 pub(crate) fn read(m: &[u8]) -> UrbCompletionFields
     ensures { result ≡ urb_completion_in m.now }
 {
@@ -45,6 +46,7 @@ pub(crate) fn read(m: &[u8]) -> UrbCompletionFields
     }
 }
 
+#[tactic(auto, unfolding(crate::specs::UrbCompletion::no_data_in))]
 pub(crate) fn read_no_data(m: &[u8]) -> UrbCompletionNoDataFields
     ensures { result ≡ no_data_in m.now }
 {

@@ -4,6 +4,8 @@
 // gets 1; so does a call on a table opened at 0. No capture can ask for a 4 or, at its length, for a 1.
 //
 // A line a call: its answer, the next number after it, and then the 16 rows, each by the RequestId that it holds, with a star where it is marked, or by a dash where it is free.
+#![tactic(auto)]
+
 ghost use Rattle.std.specs.Prelude.{◌≤◌};
 
 use answers::answer;

@@ -25,6 +25,7 @@ pub enum HeaderRead {
 }
 
 // The header of a message of at least 12 bytes.
+#[tactic(auto, unfolding(crate::specs::Header::header_of))]
 pub fn read(m: &[u8]) -> HeaderRead
     ensures { result ≡ header_of m.now }
 {

@@ -1,4 +1,6 @@
 // The listing program (01 "Listing").
+#![tactic(auto)]
+
 use listing::capture;
 use listing::capture::What;
 

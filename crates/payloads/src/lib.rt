@@ -1,2 +1,4 @@
 // The payload call.
+#![tactic(auto)]
+
 pub mod payload;

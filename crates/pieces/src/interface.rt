@@ -36,6 +36,7 @@ fn narrow(numbers: &[u32], pipes: usize) -> bool
     true
 }
 
+#[tactic(auto, unfolding(crate::specs::Interface::numbers_allowed))]
 fn allowed(numbers: &[u32]) -> bool
     ensures { result ≡ numbers_allowed numbers.now }
 {

@@ -192,6 +192,7 @@ fn put_interfaces(lent: &[u8], start: usize, rows: usize, buf: &mut [u8], at: us
     }
 }
 
+#[tactic(auto, unfolding(words::specs::Written::written))]
 fn put(p: Piece, lent: &[u8], buf: &mut [u8], at: usize)
     requires p_value { piece_lies (length lent.now) p ≡ true }
     requires p_in_bounds { at + size_of p ≤ length buf.old }

@@ -1,2 +1,4 @@
 // Whether a call has a number and a place.
+#![tactic(auto)]
+
 pub mod place;

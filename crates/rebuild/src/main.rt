@@ -1,5 +1,7 @@
 // Copies a capture from standard input to standard output, where each message that passes checks 3 to 8 is made anew: written from the fields that are read in it. So what
 // comes out is what went in, but for padding, which is written 0. All else is copied as it came: refused messages, records that close, and a record that is cut.
+#![tactic(auto)]
+
 ghost use Rattle.std.specs.Prelude.{◌≡◌, ◌≤◌, length};
 
 use answers::entry::Noted;

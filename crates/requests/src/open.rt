@@ -46,6 +46,7 @@ fn as_held(at: usize, row: Row) -> Held
 }
 
 // What is open on the channel under an id.
+#[tactic(auto, unfolding(crate::specs::Held::held_of))]
 pub fn under(c: Channel, id: RequestId) -> Held
     ensures { result ≡ held_of c id }
 {

@@ -21,6 +21,7 @@ pub struct Seen {
 }
 
 // The number is the one that the call's entry gets; it is stored with a request, and no rule looks at it.
+#[tactic(auto, unfolding(crate::specs::Decide::decided))]
 pub fn decide(kind: Kind, asked: Asked, number: u32, jitter: u32, seen: Seen) -> Verdict
     ensures { result ≡ decided kind asked number jitter seen }
 {

@@ -21,6 +21,7 @@ impl NoAck {
 }
 
 // The open request that a row holds from here on, until it is completed or withdrawn.
+#[tactic(auto, unfolding(crate::specs::Request::opened))]
 pub(crate) fn open_as(r: Request, number: u32) -> Open
     ensures { result ≡ opened r number }
 {
@@ -34,6 +35,7 @@ pub(crate) fn open_as(r: Request, number: u32) -> Open
 }
 
 // A request takes the lowest free row, unless its id is open (9) or no row is free (10).
+#[tactic(auto, unfolding(crate::specs::Request::taken))]
 pub(crate) fn take(kind: Kind, r: Request, sort: Sort, here: Held, free: Found) -> Verdict
     ensures { result ≡ taken kind r sort here free }
 {

@@ -28,6 +28,7 @@ impl Text {
     pub const MOST: u32 = 512;
 }
 
+#[tactic(auto, unfolding(crate::specs::Text::text_of, crate::specs::Text::units_of))]
 pub fn read(m: &[u8], at: usize) -> TextRead
     ensures { result ≡ text_of m.now at }
 {

@@ -25,6 +25,7 @@ impl Longest {
     pub const MESSAGE: usize = 65535;
 }
 
+#[tactic(auto, unfolding(crate::specs::Admit::asks_in))]
 fn in_phase(phase: u8, kind: Kind, m: &[u8]) -> Admitted
     ensures { result ≡ asks_in phase kind m.now }
 {
@@ -35,6 +36,7 @@ fn in_phase(phase: u8, kind: Kind, m: &[u8]) -> Admitted
     Admitted::Asks(kind, ask(kind, m))
 }
 
+#[tactic(auto, unfolding(crate::specs::Admit::from_header))]
 fn with_header(phase: u8, device: Known, callback: Known, side: u8, h: Header, m: &[u8]) -> Admitted
     ensures { result ≡ from_header phase device callback side h m.now }
 {
@@ -47,6 +49,7 @@ fn with_header(phase: u8, device: Known, callback: Known, side: u8, h: Header, m
     }
 }
 
+#[tactic(auto, unfolding(crate::specs::Admit::admitted))]
 pub(crate) fn admit(phase: u8, device: Known, callback: Known, side: u8, m: &[u8]) -> Admitted
     ensures { result ≡ admitted phase device callback side m.now }
 {

@@ -9,6 +9,7 @@ use rules::decide;
 use rules::verdict::{Act, Verdict};
 
 // What is said of a message: answers 3 to 14 and 0. The number is the one that its entry gets.
+#[tactic(auto, unfolding(crate::specs::Step::verdict_of))]
 pub fn judge(c: Channel, number: u32, side: u8, m: &[u8]) -> Verdict
     ensures { result ≡ verdict_of c number side m.now }
 {
@@ -24,6 +25,7 @@ pub fn judge(c: Channel, number: u32, side: u8, m: &[u8]) -> Verdict
 }
 
 // The channel afterwards. A refused message leaves it as it was.
+#[tactic(auto, unfolding(crate::specs::Step::after_of))]
 pub fn after(c: Channel, verdict: Verdict) -> Channel
     ensures { result ≡ after_of c verdict }
 {

@@ -12,6 +12,7 @@ use rules::verdict::Act;
 use wire::message::Asked;
 
 // What is open under the RequestId of what a message asks.
+#[tactic(auto, unfolding(crate::specs::Store::here_of))]
 fn here(c: Channel, asked: Asked) -> Held
     ensures { result ≡ here_of c asked }
 {
@@ -82,6 +83,7 @@ pub(crate) fn act_on(c: Channel, act: Act) -> Channel
 }
 
 // The channel after an accepted message.
+#[tactic(auto, unfolding(crate::specs::Store::stored))]
 pub(crate) fn keep(c: Channel, phase: u8, act: Act) -> Channel
     ensures { result ≡ stored c phase act }
 {

@@ -1,6 +1,6 @@
 -- The interface and pipe lists: one step of the interfaces as the code tests it, the pipes all at once, where a list ends, and a list in pieces.
 use Prim.Native.Nat.{ℕ, zero, suc, ◌+◌, ◌-◌, ◌*◌, ◌/◌, ◌%◌, ◌≤◌}
-use native.Mathlib.Nat.{add_zero, sub-zero, suc-sub-suc}
+use native.Mathlib.Nat.{add-zero, sub-zero, suc-sub-suc}
 use native.Mathlib.Numerals.{sub-one}
 use native.Mathlib.Omega.{arith}
 use mathlib.Core.Path.{◌≡◌, refl}
@@ -27,7 +27,7 @@ passed bytes next n at = cond (ltb (bytes / 12) n) (Fails (RanOut (at + 12 * (by
 
 pub pipes_closed : (u : List ℕ) (next : ℕ → Walk) (n at : ℕ) → pipes_of u next n at ≡ passed (left u at) next n at
 unfolding pipes_of
-pipes_closed u next zero at = rw (le-ltb (left u at / 12) 0 (omega arith), add_zero at)
+pipes_closed u next zero at = rw (le-ltb (left u at / 12) 0 (omega arith), add-zero at)
 pipes_closed u next (suc n) at = go (ltb (left u at) 12) refl (pipes_closed u next n (at + 12))
   where
     further : (k : ℕ) → at + 12 * suc k ≡ at + 12 + 12 * k
@@ -38,7 +38,7 @@ pipes_closed u next (suc n) at = go (ltb (left u at) 12) refl (pipes_closed u ne
         let few = ltb-true (left u at) 12 t in
         let none : left u at / 12 ≡ 0 = omega arith in
         let all : left u at % 12 ≡ left u at = omega arith in
-        rw (none, all, lt-ltb 0 (suc n) (omega arith), add_zero at)
+        rw (none, all, lt-ltb 0 (suc n) (omega arith), add-zero at)
     go false t i =
         let room = ltb-false (left u at) 12 t in
         let q = left u (at + 12) / 12 in

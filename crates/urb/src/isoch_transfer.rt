@@ -29,6 +29,7 @@ impl IsochTransfer {
     pub const MOST_PACKETS: u32 = 1024;
 }
 
+#[tactic(auto, unfolding(crate::specs::IsochTransfer::isoch_transfer_of))]
 pub(crate) fn read(u: &[u8]) -> StructureRead
     ensures { result ≡ isoch_transfer_of u.now }
 {

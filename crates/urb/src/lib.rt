@@ -1,4 +1,6 @@
 // Reads a TS_URB: the URB of a transfer request, with its interface and pipe lists.
+#![tactic(auto)]
+
 pub mod bulk_or_interrupt_transfer;
 pub mod control_transfer;
 pub mod get_current_frame_number;

@@ -46,6 +46,7 @@ impl SelectConfiguration {
     pub const MOST_INTERFACES: u32 = 32;
 }
 
+#[tactic(auto, unfolding(crate::specs::SelectConfiguration::select_configuration_of))]
 pub(crate) fn read(u: &[u8]) -> StructureRead
     ensures { result ≡ select_configuration_of u.now }
 {
@@ -66,6 +67,7 @@ pub(crate) fn read(u: &[u8]) -> StructureRead
 }
 
 // The configuration whose interface list ends at `end`.
+#[tactic(auto, unfolding(crate::specs::SelectConfiguration::configuration_of))]
 fn configuration(u: &[u8], count: u32, end: usize, pipes: u32) -> StructureRead
     requires { 32 ≤ end }
     ensures { result ≡ configuration_of u.now count end pipes }
@@ -89,6 +91,7 @@ fn configuration(u: &[u8], count: u32, end: usize, pipes: u32) -> StructureRead
     }
 }
 
+#[tactic(auto, unfolding(crate::specs::SelectConfiguration::descriptor_of))]
 fn read_descriptor(u: &[u8], flag: u32, at: usize) -> DescriptorRead
     ensures { result ≡ descriptor_of u.now flag at }
 {

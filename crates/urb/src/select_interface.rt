@@ -23,6 +23,7 @@ impl SelectInterface {
     pub const FUNCTION: u32 = 0x0001;
 }
 
+#[tactic(auto, unfolding(crate::specs::SelectInterface::select_interface_of))]
 pub(crate) fn read(u: &[u8]) -> StructureRead
     ensures { result ≡ select_interface_of u.now }
 {

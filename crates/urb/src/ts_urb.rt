@@ -58,6 +58,7 @@ pub enum TsUrbRead {
 }
 
 // The TsUrb of a message that is cut where its TsUrb ends. That CbTsUrb is at least 8 is the transfer's question.
+#[tactic(auto, unfolding(crate::specs::TsUrb::ts_urb_of))]
 pub fn read(u: &[u8]) -> TsUrbRead
     ensures { result ≡ ts_urb_of u.now }
 {
@@ -81,6 +82,7 @@ pub fn read(u: &[u8]) -> TsUrbRead
     }
 }
 
+#[tactic(auto, unfolding(crate::specs::TsUrb::structure_of))]
 fn structure(u: &[u8], function: u32) -> StructureRead
     ensures { result ≡ structure_of u.now function }
 {
@@ -97,6 +99,7 @@ fn structure(u: &[u8], function: u32) -> StructureRead
 }
 
 // The functions whose TsUrb has one size: each structure tests its own.
+#[tactic(auto, unfolding(crate::specs::TsUrb::one_size_of))]
 fn one_size(u: &[u8], function: u32) -> StructureRead
     ensures { result ≡ one_size_of u.now function }
 {

@@ -62,6 +62,7 @@ pub enum PairRead {
     Fails(Fault),
 }
 
+#[tactic(auto, unfolding(crate::specs::AddDevice::add_device_of))]
 pub(crate) fn read(m: &[u8]) -> AddDeviceRead
     ensures { result ≡ add_device_of m.now }
 {
@@ -80,6 +81,7 @@ pub(crate) fn read(m: &[u8]) -> AddDeviceRead
     }
 }
 
+#[tactic(auto, unfolding(crate::specs::AddDevice::pair_of))]
 fn pair(m: &[u8], at: usize) -> PairRead
     ensures { result ≡ pair_of m.now at }
 {
@@ -99,6 +101,7 @@ fn pair(m: &[u8], at: usize) -> PairRead
 }
 
 // The device, whose texts end at `at`.
+#[tactic(auto, unfolding(crate::specs::AddDevice::device_of))]
 fn device(m: &[u8], names: TextPair, classes: TextPair, at: usize) -> AddDeviceRead
     ensures { result ≡ device_of m.now names classes at }
 {
@@ -126,6 +129,7 @@ fn device(m: &[u8], names: TextPair, classes: TextPair, at: usize) -> AddDeviceR
     }
 }
 
+#[tactic(auto, unfolding(crate::specs::AddDevice::add_device_allowed))]
 pub(crate) fn allowed(b: AddDevice) -> bool
     ensures { result ≡ add_device_allowed b }
 {

@@ -25,6 +25,7 @@ impl AddVirtualChannel {
     pub const FUNCTION: u32 = 0x100;
 }
 
+#[tactic(auto, unfolding(crate::specs::AddVirtualChannel::add_virtual_channel_of))]
 pub(crate) fn read(m: &[u8]) -> AddVirtualChannelRead
     ensures { result ≡ add_virtual_channel_of m.now }
 {

@@ -28,6 +28,7 @@ impl CancelRequest {
     pub const FUNCTION: u32 = 0x100;
 }
 
+#[tactic(auto, unfolding(crate::specs::CancelRequest::cancel_request_of))]
 pub(crate) fn read(m: &[u8]) -> CancelRequestRead
     ensures { result ≡ cancel_request_of m.now }
 {

@@ -29,6 +29,7 @@ impl CapabilityRequest {
     pub const FUNCTION: u32 = 0x100;
 }
 
+#[tactic(auto, unfolding(crate::specs::CapabilityRequest::capability_request_of))]
 pub(crate) fn read(m: &[u8]) -> CapabilityRequestRead
     ensures { result ≡ capability_request_of m.now }
 {

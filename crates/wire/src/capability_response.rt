@@ -30,6 +30,7 @@ impl CapabilityResponse {
     pub const INTERFACE: u32 = 0;
 }
 
+#[tactic(auto, unfolding(crate::specs::CapabilityResponse::capability_response_of))]
 pub(crate) fn read(m: &[u8]) -> CapabilityResponseRead
     ensures { result ≡ capability_response_of m.now }
 {

@@ -35,6 +35,7 @@ impl ChannelCreated {
     pub const FUNCTION: u32 = 0x100;
 }
 
+#[tactic(auto, unfolding(crate::specs::ChannelCreated::channel_created_of))]
 pub(crate) fn read(m: &[u8]) -> ChannelCreatedRead
     ensures { result ≡ channel_created_of m.now }
 {

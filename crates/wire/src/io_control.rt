@@ -35,6 +35,7 @@ impl IoControl {
     pub const FUNCTION: u32 = 0x102;
 }
 
+#[tactic(auto, unfolding(crate::specs::IoControl::io_control_of, crate::specs::IoControl::io_control_with))]
 pub(crate) fn read(m: &[u8]) -> IoControlRead
     ensures { result ≡ io_control_of m.now }
 {

@@ -36,6 +36,7 @@ impl IoControlCompletion {
     pub const FUNCTION: u32 = 0x100;
 }
 
+#[tactic(auto, unfolding(crate::specs::IoControlCompletion::io_control_completion_of, crate::specs::IoControlCompletion::io_control_completion_with))]
 pub(crate) fn read(m: &[u8]) -> IoControlCompletionRead
     ensures { result ≡ io_control_completion_of m.now }
 {

@@ -1,4 +1,6 @@
 // Reads MS-RDPEUSB messages: bytes to values, every size before any value, and no byte of a payload.
+#![tactic(auto)]
+
 pub mod add_device;
 pub mod add_virtual_channel;
 pub mod cancel_request;

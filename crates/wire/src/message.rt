@@ -66,6 +66,7 @@ pub enum Asked {
 }
 
 // What a message of a kind asks: every size is held before any value.
+#[tactic(auto, unfolding(crate::specs::Message::asked_of, crate::specs::Reading::reading_of))]
 pub fn ask(kind: Kind, m: &[u8]) -> Asked
     ensures { result ≡ asked_of kind m.now }
 {

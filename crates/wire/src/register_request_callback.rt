@@ -32,6 +32,7 @@ impl RegisterRequestCallback {
     pub const FUNCTION: u32 = 0x101;
 }
 
+#[tactic(auto, unfolding(crate::specs::RegisterRequestCallback::register_request_callback_of))]
 pub(crate) fn read(m: &[u8]) -> RegisterRequestCallbackRead
     ensures { result ≡ register_request_callback_of m.now }
 {

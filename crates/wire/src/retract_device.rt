@@ -27,6 +27,7 @@ impl RetractDevice {
     pub const FUNCTION: u32 = 0x107;
 }
 
+#[tactic(auto, unfolding(crate::specs::RetractDevice::retract_device_of))]
 pub(crate) fn read(m: &[u8]) -> RetractDeviceRead
     ensures { result ≡ retract_device_of m.now }
 {

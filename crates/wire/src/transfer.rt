@@ -28,6 +28,7 @@ pub enum TransferRead {
     Fails(Fault),
 }
 
+#[tactic(auto, unfolding(crate::specs::Transfer::transfer_of, crate::specs::Transfer::transfer_with))]
 pub(crate) fn read(m: &[u8]) -> TransferRead
     ensures { result ≡ transfer_of m.now }
 {
@@ -48,6 +49,7 @@ pub(crate) fn read(m: &[u8]) -> TransferRead
     }
 }
 
+#[tactic(auto, unfolding(crate::specs::Transfer::output_of))]
 fn output(m: &[u8], urb: TsUrb, last: usize, end: usize) -> TransferRead
     ensures { result ≡ output_of m.now urb last end }
 {

@@ -34,6 +34,7 @@ impl TransferInRequest {
     pub const FUNCTION: u32 = 0x105;
 }
 
+#[tactic(auto, unfolding(crate::specs::TransferInRequest::transfer_in_request_of))]
 pub(crate) fn read(m: &[u8]) -> TransferInRequestRead
     ensures { result ≡ transfer_in_request_of m.now }
 {
@@ -55,6 +56,7 @@ pub(crate) fn read(m: &[u8]) -> TransferInRequestRead
     }
 }
 
+#[tactic(auto, unfolding(crate::specs::TransferInRequest::transfer_in_request_allowed))]
 pub(crate) fn allowed(b: TransferInRequest) -> bool
     ensures { result ≡ transfer_in_request_allowed b }
 {

@@ -36,6 +36,7 @@ impl TransferOutRequest {
     pub const FUNCTION: u32 = 0x106;
 }
 
+#[tactic(auto, unfolding(crate::specs::TransferOutRequest::transfer_out_request_of))]
 pub(crate) fn read(m: &[u8]) -> TransferOutRequestRead
     ensures { result ≡ transfer_out_request_of m.now }
 {
@@ -45,6 +46,7 @@ pub(crate) fn read(m: &[u8]) -> TransferOutRequestRead
     }
 }
 
+#[tactic(auto, unfolding(crate::specs::TransferOutRequest::outgoing_of))]
 fn outgoing(m: &[u8], t: Transfer) -> TransferOutRequestRead
     ensures { result ≡ outgoing_of m.now t }
 {
@@ -71,6 +73,7 @@ fn outgoing(m: &[u8], t: Transfer) -> TransferOutRequestRead
     })
 }
 
+#[tactic(auto, unfolding(crate::specs::TransferOutRequest::transfer_out_request_allowed))]
 pub(crate) fn allowed(b: TransferOutRequest) -> bool
     ensures { result ≡ transfer_out_request_allowed b }
 {

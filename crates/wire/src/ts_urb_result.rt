@@ -39,6 +39,7 @@ pub enum CompletionRead {
     Fails(Fault),
 }
 
+#[tactic(auto, unfolding(crate::specs::TsUrbResult::completion_of, crate::specs::TsUrbResult::completion_with))]
 pub(crate) fn read(m: &[u8]) -> CompletionRead
     ensures { result ≡ completion_of m.now }
 {
@@ -62,6 +63,7 @@ pub(crate) fn read(m: &[u8]) -> CompletionRead
 }
 
 // What follows a result of `size` bytes.
+#[tactic(auto, unfolding(crate::specs::TsUrbResult::completed_of))]
 fn completed(m: &[u8], size: u32) -> CompletionRead
     requires { 8 ≤ size }
     ensures { result ≡ completed_of m.now size }

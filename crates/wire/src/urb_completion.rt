@@ -35,6 +35,7 @@ impl UrbCompletion {
     pub const FUNCTION: u32 = 0x101;
 }
 
+#[tactic(auto, unfolding(crate::specs::UrbCompletion::urb_completion_of))]
 pub(crate) fn read(m: &[u8]) -> UrbCompletionRead
     ensures { result ≡ urb_completion_of m.now }
 {
@@ -44,6 +45,7 @@ pub(crate) fn read(m: &[u8]) -> UrbCompletionRead
     }
 }
 
+#[tactic(auto, unfolding(crate::specs::UrbCompletion::with_output_of))]
 fn with_output(m: &[u8], c: Completion) -> UrbCompletionRead
     ensures { result ≡ with_output_of m.now c }
 {

@@ -33,6 +33,7 @@ impl UrbCompletionNoData {
     pub const FUNCTION: u32 = 0x102;
 }
 
+#[tactic(auto, unfolding(crate::specs::UrbCompletionNoData::urb_completion_no_data_of))]
 pub(crate) fn read(m: &[u8]) -> UrbCompletionNoDataRead
     ensures { result ≡ urb_completion_no_data_of m.now }
 {

@@ -3,8 +3,8 @@ ghost use Rattle.std.specs.Prelude.{◌≡◌};
 ghost use Rattle.words.specs.Hresult.{succeeded};
 
 // Success is the top bit clear (01 "Completions").
-pub fn is_success(res: u32) -> bool
-    ensures { result ≡ succeeded res }
+pub fn is_success(value: u32) -> bool
+    ensures { result ≡ succeeded value }
 {
-    res < 0x8000_0000
+    value < 0x8000_0000
 }

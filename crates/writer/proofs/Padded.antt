@@ -3,7 +3,7 @@ use Prim.Native.Nat.{ℕ, zero, suc, ◌+◌, ◌-◌}
 use mathlib.Core.Path.{◌≡◌, refl, ap}
 use mathlib.Core.List.{List, [], ◌∷◌, ◌++◌}
 use lib.ListN.{get_or, length, replicate}
-use native.Mathlib.Nat.{add_zero}
+use native.Mathlib.Nat.{add-zero}
 use native.Mathlib.Omega.{arith}
 use borrow.Author.Tests.{le-ltb}
 use Rattle.pieces.specs.Pieces.{bytes_of, buffer_by, buffer_of, encode, size_of, total_from, written_by, written_of}
@@ -31,7 +31,7 @@ encode-padded s ps = encode_behind s ps (20 - length ps)
 total_none : (n sum k : ℕ) → total_from n sum (replicate k Nothing) ≡ Fits sum
 unfolding total_from
 total_none n sum zero = refl
-total_none n sum (suc k) = rw (le-ltb (65535 - sum) 0 (omega arith), add_zero sum) (total_none n sum k)
+total_none n sum (suc k) = rw (le-ltb (65535 - sum) 0 (omega arith), add-zero sum) (total_none n sum k)
 
 total_behind : (n sum : ℕ) (ps : List Piece) (k : ℕ) → total_from n sum (ps ++ replicate k Nothing) ≡ total_from n sum ps
 unfolding total_from

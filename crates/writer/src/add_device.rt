@@ -78,6 +78,7 @@ fn list_fits(lent: &[u8], part: Part) -> bool
     text::list_allowed(given(lent, part))
 }
 
+#[tactic(auto, unfolding(crate::specs::AddDevice::add_device_given))]
 pub(crate) fn allowed(b: AddDeviceFields, lent: &[u8]) -> bool
     ensures { result ≡ add_device_given lent.now b }
 {

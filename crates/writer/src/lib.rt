@@ -1,4 +1,6 @@
 // Writes a message of kinds 1 to 17 from its fields (02 R-1): beside each reader of the wire crate, what its message is written from.
+#![tactic(auto)]
+
 pub mod add_device;
 pub mod add_virtual_channel;
 pub mod cancel_request;

@@ -46,6 +46,7 @@ pub enum Fields {
 }
 
 // Whether every field is within its values, and every part in the lent bytes.
+#[tactic(auto, unfolding(crate::specs::Message::given_in))]
 fn given(fields: Fields, lent: &[u8]) -> bool
     ensures { result ≡ given_in lent.now fields }
 {
@@ -69,6 +70,7 @@ fn given(fields: Fields, lent: &[u8]) -> bool
     }
 }
 
+#[tactic(auto, unfolding(crate::specs::Message::pieces_of))]
 fn pieces(id: MessageId, fields: Fields) -> [Piece; 20]
     requires { SmallFields fields }
     ensures { result ≡ padded (pieces_of id fields) }

@@ -60,6 +60,7 @@ fn outgoing(noack: bool, urb: Urb) -> bool
     true
 }
 
+#[tactic(auto, unfolding(crate::specs::Transfer::transfer_in_given))]
 pub(crate) fn in_allowed(interface: u32, b: TransferInFields, lent: &[u8]) -> bool
     ensures { result ≡ transfer_in_given lent.now interface b }
 {
@@ -78,6 +79,7 @@ pub(crate) fn in_allowed(interface: u32, b: TransferInFields, lent: &[u8]) -> bo
     }
 }
 
+#[tactic(auto, unfolding(crate::specs::Transfer::transfer_out_given))]
 pub(crate) fn out_allowed(interface: u32, b: TransferOutFields, lent: &[u8]) -> bool
     ensures { result ≡ transfer_out_given lent.now interface b }
 {

@@ -80,6 +80,7 @@ pub enum Listed {
     Pipes(u32),
 }
 
+#[tactic(auto, unfolding(crate::specs::TsUrb::listed_of))]
 fn list_pipes(lent: &[u8], part: Part, count: u32) -> Listed
     requires { part.start + part.size ≤ length lent.now }
     ensures { result ≡ listed_of lent.now part count }
@@ -107,6 +108,7 @@ fn descriptor_sized(flag: u32, size: usize) -> bool
     9 <= size
 }
 
+#[tactic(auto, unfolding(crate::specs::TsUrb::configuration_stated))]
 fn configuration(lent: &[u8], b: SelectConfigurationFields) -> Stated
     ensures { result ≡ configuration_stated lent.now b }
 {
@@ -141,6 +143,7 @@ fn configuration(lent: &[u8], b: SelectConfigurationFields) -> Stated
     }
 }
 
+#[tactic(auto, unfolding(crate::specs::TsUrb::interface_stated))]
 fn interface(lent: &[u8], b: SelectInterfaceFields) -> Stated
     ensures { result ≡ interface_stated lent.now b }
 {
@@ -158,6 +161,7 @@ fn interface(lent: &[u8], b: SelectInterfaceFields) -> Stated
     }
 }
 
+#[tactic(auto, unfolding(crate::specs::TsUrb::control_stated))]
 fn control(lent: &[u8], b: ControlTransfer) -> Stated
     ensures { result ≡ control_stated lent.now b }
 {
@@ -171,6 +175,7 @@ fn control(lent: &[u8], b: ControlTransfer) -> Stated
     Stated::Is(Urb::ControlTransfer(b))
 }
 
+#[tactic(auto, unfolding(crate::specs::TsUrb::isoch_stated))]
 fn isoch(lent: &[u8], b: IsochTransferFields) -> Stated
     ensures { result ≡ isoch_stated lent.now b }
 {
@@ -212,6 +217,7 @@ fn suits(function: u32, structure: Structure) -> bool
 }
 
 // A structure under a function that it has.
+#[tactic(auto, unfolding(crate::specs::TsUrb::stated_of))]
 pub(crate) fn state(function: u32, structure: Structure, lent: &[u8]) -> Stated
     ensures { result ≡ stated_of lent.now function structure }
 {

@@ -3,7 +3,7 @@ use Prim.Native.Nat.{ℕ, zero, suc, ◌+◌, ◌-◌, ◌*◌, ◌/◌, ◌%◌
 use native.Mathlib.Omega.{arith}
 use native.Mathlib.Nat.{div-div-eq-div-mul}
 use mathlib.Core.Path.{◌≡◌, refl, ap, sym, subst, ◌∙◌}
-use mathlib.Core.List.{List, [], ◌∷◌, ◌++◌, append_assoc, append_nil}
+use mathlib.Core.List.{List, [], ◌∷◌, ◌++◌, append_assoc, append-nil}
 use mathlib.Core.Bool.{Bool, true, false, cond}
 use lib.ListN.{length, take, drop, get_or, length-append}
 use lib.Seq.{take-append_seam, drop-append_seam, get_or-append-add, get_or-drop}
@@ -140,7 +140,7 @@ stands pre s rest w at (Interfaces p) b e l h = (rows_same s b (p.size / 12) pre
 -- the pieces of a message, whose parts lie in the lent bytes, stand in it one behind the other
 places_behind : (pre s w : List ℕ) (at sum m : ℕ) (ps : List Piece) → Bytes s → w ≡ pre ++ encode s ps → at ≡ length pre → total_from (length s) sum ps ≡ total.Fits m → Places w s at ps
 unfolding encode
-places_behind pre s w at sum m [] b e l t = rw (e, append_nil) (sym l)
+places_behind pre s w at sum m [] b e l t = rw (e, append-nil) (sym l)
 places_behind pre s w at sum m (p ∷ ps) b e l t =
     let q = total_first (length s) sum p ps m t in
     let n = piece_length s p q.0 in (
