@@ -2,7 +2,7 @@
 ghost use Rattle.std.specs.Prelude.{◌≡◌};
 ghost use Rattle.answers.specs.Kind.{kind_number};
 
-#[derive(Drop)]
+#[derive(Clone, Copy)]
 pub enum Kind {
     CapabilityRequest,
     CapabilityResponse,

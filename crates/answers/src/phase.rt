@@ -4,7 +4,7 @@ ghost use Rattle.answers.specs.Phase.{phases_of};
 
 use crate::kind::Kind;
 
-#[derive(Drop)]
+#[derive(Clone, Copy)]
 pub struct Phases {
     pub before: u8,
     pub after: u8,

@@ -6,7 +6,7 @@ use crate::row;
 use crate::row::{Row, Sort};
 use header::ids::Known;
 
-#[derive(Drop)]
+#[derive(Clone, Copy)]
 pub struct Channel {
     pub phase: u8,
     pub device: Known,

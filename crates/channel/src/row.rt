@@ -5,7 +5,7 @@ ghost use Rattle.channel.specs.Rows.{marked_open, marked_row};
 use header::ids::RequestId;
 
 // An open request: its id, the journal number of its entry, the size that its completion is held to, and whether a cancel has marked it (02 R-2).
-#[derive(Drop)]
+#[derive(Clone, Copy)]
 pub struct Open {
     pub request: RequestId,
     pub number: u32,
@@ -14,7 +14,7 @@ pub struct Open {
 }
 
 // Free or in use is told by the sort alone, never by a number or a mark.
-#[derive(Drop)]
+#[derive(Clone, Copy)]
 pub enum Sort {
     Free,
     Io(Open),
@@ -22,7 +22,7 @@ pub enum Sort {
     Out(Open),
 }
 
-#[derive(Drop)]
+#[derive(Clone, Copy)]
 pub struct Row {
     pub sort: Sort,
 }

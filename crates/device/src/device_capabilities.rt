@@ -33,10 +33,10 @@ fn speed_suits_bus(c: DeviceCapabilities) -> bool
     c.speed == 0
 }
 
-#[derive(Drop)]
+#[derive(Clone, Copy)]
 struct Row(usize, Field, Values);
 
-#[derive(Drop)]
+#[derive(Clone, Copy)]
 enum Field {
     CbSize,
     UsbBusInterfaceVersion,
@@ -47,7 +47,7 @@ enum Field {
     NoAckIsochWriteJitterBufferSizeInMs,
 }
 
-#[derive(Drop)]
+#[derive(Clone, Copy)]
 enum Values {
     One(u32),
     Two(u32, u32),
@@ -55,7 +55,7 @@ enum Values {
     OneOr(u32, u32, u32),
 }
 
-#[derive(Drop)]
+#[derive(Clone, Copy)]
 pub struct DeviceCapabilities {
     pub size: u32,
     pub bus: u32,
@@ -67,7 +67,7 @@ pub struct DeviceCapabilities {
 }
 
 // The capabilities and the byte behind them.
-#[derive(Drop)]
+#[derive(Clone, Copy)]
 pub enum CapabilitiesRead {
     Fits(DeviceCapabilities, usize),
     Fails(Fault),

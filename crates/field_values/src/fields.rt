@@ -21,7 +21,7 @@ use writer::transfer::{TransferInFields, TransferOutFields};
 use writer::urb_completion::{UrbCompletionFields, UrbCompletionNoDataFields, UrbResultFields};
 
 // What the writer can be called with, if the numbers say it.
-#[derive(Drop)]
+#[derive(Clone, Copy)]
 pub(crate) enum Given {
     Nothing,
     Is(Fields),

@@ -8,7 +8,7 @@ use writer::ts_urb::{
 };
 
 // None where no structure has the number, or NoAck is no single bit.
-#[derive(Drop)]
+#[derive(Clone, Copy)]
 pub(crate) enum GivenUrb {
     Nothing,
     Is(TsUrbFields),

@@ -7,17 +7,17 @@ ghost use Rattle.header.specs.Ids.{assignable, interface_in, mask_in, message_in
 
 use words::numbers::u32_at;
 
-#[derive(Drop)]
+#[derive(Clone, Copy)]
 pub struct InterfaceId(u32);
 
-#[derive(Drop)]
+#[derive(Clone, Copy)]
 pub struct MessageId(u32);
 
-#[derive(Drop)]
+#[derive(Clone, Copy)]
 pub struct RequestId(u32);
 
 // An interface id that a channel may have learnt: its device's, or its callback's.
-#[derive(Drop)]
+#[derive(Clone, Copy)]
 pub enum Known {
     Nothing,
     Is(InterfaceId),

@@ -10,7 +10,7 @@ ghost use Rattle.header.specs.Header.{header_of};
 use crate::ids::{InterfaceId, MessageId};
 use words::numbers::u32_at;
 
-#[derive(Drop)]
+#[derive(Clone, Copy)]
 pub struct Header {
     pub interface: InterfaceId,
     pub mask: u32,
@@ -18,7 +18,7 @@ pub struct Header {
     pub function: u32,
 }
 
-#[derive(Drop)]
+#[derive(Clone, Copy)]
 pub enum HeaderRead {
     Short,
     Is(Header),

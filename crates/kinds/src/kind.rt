@@ -21,13 +21,13 @@ use wire::transfer_out_request::TransferOutRequest;
 use wire::urb_completion::UrbCompletion;
 use wire::urb_completion_no_data::UrbCompletionNoData;
 
-#[derive(Drop)]
+#[derive(Clone, Copy)]
 pub enum KindFound {
     Nothing,
     Is(Kind),
 }
 
-#[derive(Drop)]
+#[derive(Clone, Copy)]
 pub struct Side {}
 
 impl Side {

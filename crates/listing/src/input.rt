@@ -9,7 +9,7 @@ pub(crate) fn space() -> [u8; 131072]
 }
 
 // After a read: where the bytes end that are held then. They end where they did where the input has ended.
-#[derive(Drop)]
+#[derive(Clone, Copy)]
 pub(crate) struct More {
     pub failed: bool,
     pub end: usize,

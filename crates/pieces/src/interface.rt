@@ -13,7 +13,7 @@ ghost use Rattle.pieces.specs.Interface.{interface_bytes, interface_written, nar
 
 use crate::piece::{Written, put_word};
 
-#[derive(Drop)]
+#[derive(Clone, Copy)]
 pub struct Interface {}
 
 impl Interface {

@@ -8,7 +8,7 @@ ghost use Rattle.pieces.specs.declared.piece.Total.TheVariants as total;
 use words::layout::Part;
 use words::numbers::{u16_at, u32_at};
 
-#[derive(Drop)]
+#[derive(Clone, Copy)]
 pub enum Piece {
     Nothing,
     // the low 32 bits of a number
@@ -20,14 +20,14 @@ pub enum Piece {
 }
 
 // How long a message is, where its parts lie in the lent bytes and it is not over 65,535 bytes.
-#[derive(Drop)]
+#[derive(Clone, Copy)]
 pub enum Total {
     Nothing,
     Fits(usize),
 }
 
 // What a writer answers.
-#[derive(Drop)]
+#[derive(Clone, Copy)]
 pub enum Written {
     // the message is so long, and stands at the buffer's start
     Whole(usize),
@@ -38,7 +38,7 @@ pub enum Written {
 }
 
 // A row of an interface list as its three words, and how many pipes are to come behind it.
-#[derive(Drop)]
+#[derive(Clone, Copy)]
 pub struct Row {
     pub first: u32,
     pub second: u32,
@@ -46,7 +46,7 @@ pub struct Row {
     pub pipes: u32,
 }
 
-#[derive(Drop)]
+#[derive(Clone, Copy)]
 pub struct Pieces {}
 
 impl Pieces {

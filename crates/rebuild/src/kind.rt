@@ -2,7 +2,7 @@
 use answers::entry::{Entry, Noted};
 use answers::kind::Kind;
 
-#[derive(Drop)]
+#[derive(Clone, Copy)]
 pub(crate) enum Passed {
     Nothing,
     Is(Kind),

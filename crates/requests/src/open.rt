@@ -9,7 +9,7 @@ use header::ids::RequestId;
 use rows::search::Found;
 
 // What is open under an id: nothing, or a request of one of the three sorts, and its row.
-#[derive(Drop)]
+#[derive(Clone, Copy)]
 pub enum Held {
     Nothing,
     Io(usize, Open),

@@ -5,7 +5,7 @@ ghost use Rattle.rows.specs.Search.{lowest_of, open_count};
 use crate::row;
 use channel::channel::Channel;
 
-#[derive(Drop)]
+#[derive(Clone, Copy)]
 pub enum Found {
     At(usize),
     Nothing,

@@ -13,7 +13,7 @@ use wire::message::{IoCompleted, UrbCompleted};
 use words::hresult;
 use words::layout::Part;
 
-#[derive(Drop)]
+#[derive(Clone, Copy)]
 pub(crate) struct InsufficientBuffer {}
 
 impl InsufficientBuffer {

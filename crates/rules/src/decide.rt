@@ -13,7 +13,7 @@ use wire::message::Asked;
 use words::layout::Part;
 
 // What was found in the rows: what is open under the message's RequestId, the lowest free row, how many are open.
-#[derive(Drop)]
+#[derive(Clone, Copy)]
 pub struct Seen {
     pub here: Held,
     pub free: Found,

@@ -13,7 +13,7 @@ use rows::search::Found;
 use wire::message::Request;
 
 // An accepted transfer out with NoAck.
-#[derive(Drop)]
+#[derive(Clone, Copy)]
 pub(crate) struct NoAck {}
 
 impl NoAck {

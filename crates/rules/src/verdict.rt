@@ -10,7 +10,7 @@ use header::ids::{InterfaceId, Known};
 use words::layout::Part;
 
 // What is done to the channel, beside its phase.
-#[derive(Drop)]
+#[derive(Clone, Copy)]
 pub enum Act {
     Keep,
     // the device's interface, and its NoAck milliseconds
@@ -26,7 +26,7 @@ pub enum Act {
 }
 
 // An accepted message: what its entry says (01 "Journal"), where its payload lies, the phase after it, and what is done.
-#[derive(Drop)]
+#[derive(Clone, Copy)]
 pub struct Accepted {
     pub kind: u8,
     pub request: u32,
@@ -37,7 +37,7 @@ pub struct Accepted {
     pub act: Act,
 }
 
-#[derive(Drop)]
+#[derive(Clone, Copy)]
 pub enum Verdict {
     // the entry's kind, and why
     Refused(u8, Answer),

@@ -8,7 +8,7 @@ ghost use Rattle.texts.specs.Text.{text_of, last_unit, prior_unit, text_allowed,
 use words::layout::{Fault, Part};
 use words::numbers::{rest, u16_at, u32_at};
 
-#[derive(Drop)]
+#[derive(Clone, Copy)]
 pub struct Text {
     pub count: u32,
     pub units: Part,
@@ -18,7 +18,7 @@ pub struct Text {
 }
 
 // A text and the byte behind it.
-#[derive(Drop)]
+#[derive(Clone, Copy)]
 pub enum TextRead {
     Fits(Text, usize),
     Fails(Fault),

@@ -11,14 +11,14 @@ use header::shared_msg_header::{Header, HeaderRead};
 use kinds::kind::{KindFound, kind_of};
 use wire::message::{Asked, ask};
 
-#[derive(Drop)]
+#[derive(Clone, Copy)]
 pub enum Admitted {
     // the entry's kind, and why
     Refused(u8, Answer),
     Asks(Kind, Asked),
 }
 
-#[derive(Drop)]
+#[derive(Clone, Copy)]
 pub struct Longest {}
 
 impl Longest {

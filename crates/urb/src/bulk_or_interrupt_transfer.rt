@@ -9,7 +9,7 @@ use crate::ts_urb::{StructureRead, Urb};
 use words::layout::Fault;
 use words::numbers::{rest, u32_at};
 
-#[derive(Drop)]
+#[derive(Clone, Copy)]
 pub struct BulkOrInterruptTransfer {
     pub pipe: u32,
     pub flags: u32,

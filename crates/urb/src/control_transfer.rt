@@ -10,7 +10,7 @@ use crate::ts_urb::{StructureRead, Urb};
 use words::layout::{Fault, Part};
 use words::numbers::{rest, u32_at};
 
-#[derive(Drop)]
+#[derive(Clone, Copy)]
 pub struct ControlTransfer {
     pub pipe: u32,
     pub flags: u32,

@@ -6,7 +6,7 @@ use crate::ts_urb::{StructureRead, Urb};
 use words::layout::Fault;
 use words::numbers::rest;
 
-#[derive(Drop)]
+#[derive(Clone, Copy)]
 pub struct GetCurrentFrameNumber {}
 
 impl GetCurrentFrameNumber {

@@ -15,13 +15,13 @@ use words::layout::Fault;
 use words::numbers::{rest, u16_at, u32_at};
 
 // Where a list ends and the largest NumberOfPipes in it, or what broke.
-#[derive(Drop)]
+#[derive(Clone, Copy)]
 pub enum Walk {
     End(usize, u32),
     Fails(Fault),
 }
 
-#[derive(Drop)]
+#[derive(Clone, Copy)]
 pub struct Interfaces {}
 
 impl Interfaces {

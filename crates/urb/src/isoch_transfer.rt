@@ -13,7 +13,7 @@ use crate::ts_urb::{StructureRead, Urb};
 use words::layout::{Fault, Part};
 use words::numbers::{rest, u32_at};
 
-#[derive(Drop)]
+#[derive(Clone, Copy)]
 pub struct IsochTransfer {
     pub pipe: u32,
     pub flags: u32,

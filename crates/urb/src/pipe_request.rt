@@ -8,7 +8,7 @@ use crate::ts_urb::{StructureRead, Urb};
 use words::layout::Fault;
 use words::numbers::{rest, u32_at};
 
-#[derive(Drop)]
+#[derive(Clone, Copy)]
 pub struct PipeRequest {
     pub pipe: u32,
 }

@@ -15,7 +15,7 @@ use crate::ts_urb::{StructureRead, Urb};
 use words::layout::{Fault, Part};
 use words::numbers::{byte_at, rest, u32_at};
 
-#[derive(Drop)]
+#[derive(Clone, Copy)]
 pub struct SelectConfiguration {
     pub flag: u32,
     pub count: u32,
@@ -26,7 +26,7 @@ pub struct SelectConfiguration {
 }
 
 // The configuration descriptor and its first two bytes, 0 where there is none.
-#[derive(Drop)]
+#[derive(Clone, Copy)]
 pub struct Descriptor {
     pub part: Part,
     pub first: u32,
@@ -34,7 +34,7 @@ pub struct Descriptor {
 }
 
 // A descriptor and the byte behind it.
-#[derive(Drop)]
+#[derive(Clone, Copy)]
 pub enum DescriptorRead {
     Fits(Descriptor, usize),
     Fails(Fault),

@@ -11,7 +11,7 @@ use crate::ts_urb::{StructureRead, Urb};
 use words::layout::{Fault, Part};
 use words::numbers::{rest, u32_at};
 
-#[derive(Drop)]
+#[derive(Clone, Copy)]
 pub struct SelectInterface {
     pub handle: u32,
     pub interface: Part,

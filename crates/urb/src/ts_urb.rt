@@ -23,7 +23,7 @@ use header::ids::RequestId;
 use words::layout::Fault;
 use words::numbers::{rest, u16_at};
 
-#[derive(Drop)]
+#[derive(Clone, Copy)]
 pub enum Urb {
     SelectConfiguration(SelectConfiguration),
     SelectInterface(SelectInterface),
@@ -35,7 +35,7 @@ pub enum Urb {
     Unknown,
 }
 
-#[derive(Drop)]
+#[derive(Clone, Copy)]
 pub struct TsUrb {
     pub size: u32,
     pub function: u32,
@@ -45,13 +45,13 @@ pub struct TsUrb {
 }
 
 // What is behind the header, and where its last field ends; or what broke.
-#[derive(Drop)]
+#[derive(Clone, Copy)]
 pub enum StructureRead {
     Fits(Urb, usize),
     Fails(Fault),
 }
 
-#[derive(Drop)]
+#[derive(Clone, Copy)]
 pub enum TsUrbRead {
     Fits(TsUrb, usize),
     Fails(Fault),

@@ -22,13 +22,13 @@ use words::layout::Fault;
 use words::numbers::{rest, u32_at};
 
 // A text and the list or text behind it: the instance id with the hardware ids, or the compatible ids with the container id.
-#[derive(Drop)]
+#[derive(Clone, Copy)]
 pub struct TextPair {
     pub first: Text,
     pub second: Text,
 }
 
-#[derive(Drop)]
+#[derive(Clone, Copy)]
 pub struct AddDevice {
     pub count: u32,
     pub device: InterfaceId,
@@ -41,7 +41,7 @@ pub struct AddDevice {
     pub capabilities: DeviceCapabilities,
 }
 
-#[derive(Drop)]
+#[derive(Clone, Copy)]
 pub enum AddDeviceRead {
     Fits(AddDevice),
     Fails(Fault),
@@ -56,7 +56,7 @@ impl AddDevice {
 }
 
 // Two texts and the byte behind them.
-#[derive(Drop)]
+#[derive(Clone, Copy)]
 pub enum PairRead {
     Fits(TextPair, usize),
     Fails(Fault),

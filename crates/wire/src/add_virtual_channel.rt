@@ -8,10 +8,10 @@ use crate::message::Asked;
 use words::layout::Fault;
 use words::numbers::rest;
 
-#[derive(Drop)]
+#[derive(Clone, Copy)]
 pub struct AddVirtualChannel {}
 
-#[derive(Drop)]
+#[derive(Clone, Copy)]
 pub enum AddVirtualChannelRead {
     Fits,
     Fails(Fault),

@@ -11,12 +11,12 @@ use header::ids::RequestId;
 use words::layout::Fault;
 use words::numbers::rest;
 
-#[derive(Drop)]
+#[derive(Clone, Copy)]
 pub struct CancelRequest {
     pub request: RequestId,
 }
 
-#[derive(Drop)]
+#[derive(Clone, Copy)]
 pub enum CancelRequestRead {
     Fits(CancelRequest),
     Fails(Fault),

@@ -10,12 +10,12 @@ use crate::message::Asked;
 use words::layout::Fault;
 use words::numbers::{rest, u32_at};
 
-#[derive(Drop)]
+#[derive(Clone, Copy)]
 pub struct CapabilityRequest {
     pub capability: u32,
 }
 
-#[derive(Drop)]
+#[derive(Clone, Copy)]
 pub enum CapabilityRequestRead {
     Fits(CapabilityRequest),
     Fails(Fault),

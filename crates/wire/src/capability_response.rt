@@ -12,13 +12,13 @@ use words::hresult::is_success;
 use words::layout::Fault;
 use words::numbers::{rest, u32_at};
 
-#[derive(Drop)]
+#[derive(Clone, Copy)]
 pub struct CapabilityResponse {
     pub capability: u32,
     pub result: u32,
 }
 
-#[derive(Drop)]
+#[derive(Clone, Copy)]
 pub enum CapabilityResponseRead {
     Fits(CapabilityResponse),
     Fails(Fault),

@@ -12,14 +12,14 @@ use crate::message::Asked;
 use words::layout::Fault;
 use words::numbers::{rest, u32_at};
 
-#[derive(Drop)]
+#[derive(Clone, Copy)]
 pub struct ChannelCreated {
     pub major: u32,
     pub minor: u32,
     pub capabilities: u32,
 }
 
-#[derive(Drop)]
+#[derive(Clone, Copy)]
 pub enum ChannelCreatedRead {
     Fits(ChannelCreated),
     Fails(Fault),

@@ -7,7 +7,7 @@ ghost use Rattle.wire.specs.IoControl.{io_control_of};
 use crate::io_control;
 use crate::message::Asked;
 
-#[derive(Drop)]
+#[derive(Clone, Copy)]
 pub struct InternalIoControl {}
 
 impl InternalIoControl {

@@ -15,7 +15,7 @@ use header::ids::RequestId;
 use words::layout::{Fault, Part};
 use words::numbers::{rest, u32_at};
 
-#[derive(Drop)]
+#[derive(Clone, Copy)]
 pub struct IoControl {
     pub code: u32,
     pub input: Part,
@@ -23,7 +23,7 @@ pub struct IoControl {
     pub request: RequestId,
 }
 
-#[derive(Drop)]
+#[derive(Clone, Copy)]
 pub enum IoControlRead {
     Fits(IoControl),
     Fails(Fault),

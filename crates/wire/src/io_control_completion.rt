@@ -15,7 +15,7 @@ use header::ids::RequestId;
 use words::layout::{Fault, Part};
 use words::numbers::{rest, u32_at};
 
-#[derive(Drop)]
+#[derive(Clone, Copy)]
 pub struct IoControlCompletion {
     pub request: RequestId,
     pub result: u32,
@@ -24,7 +24,7 @@ pub struct IoControlCompletion {
     pub output: Part,
 }
 
-#[derive(Drop)]
+#[derive(Clone, Copy)]
 pub enum IoControlCompletionRead {
     Fits(IoControlCompletion),
     Fails(Fault),

@@ -13,7 +13,7 @@ use header::ids::{InterfaceId, Known, RequestId};
 use words::layout::{Fault, Part};
 
 // A request: its id, its OutputBufferSize, whether it comes with NoAck, and where its input or output bytes lie.
-#[derive(Drop)]
+#[derive(Clone, Copy)]
 pub struct Request {
     pub request: RequestId,
     pub size: u32,
@@ -22,7 +22,7 @@ pub struct Request {
 }
 
 // A completion of an IO request.
-#[derive(Drop)]
+#[derive(Clone, Copy)]
 pub struct IoCompleted {
     pub request: RequestId,
     pub result: u32,
@@ -32,14 +32,14 @@ pub struct IoCompleted {
 }
 
 // A completion of a transfer.
-#[derive(Drop)]
+#[derive(Clone, Copy)]
 pub struct UrbCompleted {
     pub request: RequestId,
     pub size: u32,
     pub payload: Part,
 }
 
-#[derive(Drop)]
+#[derive(Clone, Copy)]
 pub enum Asked {
     // sizes do not add up: answer 7
     Fails(Fault),

@@ -12,7 +12,7 @@ use header::ids::{InterfaceId, Known};
 use words::layout::Fault;
 use words::numbers::{rest, u32_at};
 
-#[derive(Drop)]
+#[derive(Clone, Copy)]
 pub struct RegisterRequestCallback {
     pub count: u32,
     pub callback: Known,
@@ -20,7 +20,7 @@ pub struct RegisterRequestCallback {
     pub top: u32,
 }
 
-#[derive(Drop)]
+#[derive(Clone, Copy)]
 pub enum RegisterRequestCallbackRead {
     Fits(RegisterRequestCallback),
     Fails(Fault),

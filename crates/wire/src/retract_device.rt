@@ -10,12 +10,12 @@ use crate::message::Asked;
 use words::layout::Fault;
 use words::numbers::{rest, u32_at};
 
-#[derive(Drop)]
+#[derive(Clone, Copy)]
 pub struct RetractDevice {
     pub reason: u32,
 }
 
-#[derive(Drop)]
+#[derive(Clone, Copy)]
 pub enum RetractDeviceRead {
     Fits(RetractDevice),
     Fails(Fault),

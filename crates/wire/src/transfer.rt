@@ -11,7 +11,7 @@ use urb::ts_urb::{TsUrb, TsUrbRead};
 use words::layout::Fault;
 use words::numbers::{rest, u32_at};
 
-#[derive(Drop)]
+#[derive(Clone, Copy)]
 pub struct Transfer {
     pub urb: TsUrb,
     // where the TsUrb's last field ends, and where the TsUrb ends
@@ -22,7 +22,7 @@ pub struct Transfer {
     pub after: usize,
 }
 
-#[derive(Drop)]
+#[derive(Clone, Copy)]
 pub enum TransferRead {
     Fits(Transfer),
     Fails(Fault),

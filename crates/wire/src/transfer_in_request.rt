@@ -16,13 +16,13 @@ use urb_values::values;
 use words::layout::{Fault, Part};
 use words::numbers::rest;
 
-#[derive(Drop)]
+#[derive(Clone, Copy)]
 pub struct TransferInRequest {
     pub urb: TsUrb,
     pub size: u32,
 }
 
-#[derive(Drop)]
+#[derive(Clone, Copy)]
 pub enum TransferInRequestRead {
     Fits(TransferInRequest),
     Fails(Fault),

@@ -17,14 +17,14 @@ use urb_values::values;
 use words::layout::{Fault, Part};
 use words::numbers::rest;
 
-#[derive(Drop)]
+#[derive(Clone, Copy)]
 pub struct TransferOutRequest {
     pub urb: TsUrb,
     pub size: u32,
     pub output: Part,
 }
 
-#[derive(Drop)]
+#[derive(Clone, Copy)]
 pub enum TransferOutRequestRead {
     Fits(TransferOutRequest),
     Fails(Fault),

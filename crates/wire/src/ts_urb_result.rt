@@ -16,14 +16,14 @@ use header::ids::RequestId;
 use words::layout::{Fault, Part};
 use words::numbers::{rest, u16_at, u32_at};
 
-#[derive(Drop)]
+#[derive(Clone, Copy)]
 pub struct TsUrbResult {
     pub size: u32,
     pub status: u32,
     pub rest: Part,
 }
 
-#[derive(Drop)]
+#[derive(Clone, Copy)]
 pub struct Completion {
     pub request: RequestId,
     pub urb: TsUrbResult,
@@ -33,7 +33,7 @@ pub struct Completion {
     pub after: usize,
 }
 
-#[derive(Drop)]
+#[derive(Clone, Copy)]
 pub enum CompletionRead {
     Fits(Completion),
     Fails(Fault),

@@ -14,7 +14,7 @@ use header::ids::RequestId;
 use words::layout::{Fault, Part};
 use words::numbers::rest;
 
-#[derive(Drop)]
+#[derive(Clone, Copy)]
 pub struct UrbCompletion {
     pub request: RequestId,
     pub urb: TsUrbResult,
@@ -23,7 +23,7 @@ pub struct UrbCompletion {
     pub output: Part,
 }
 
-#[derive(Drop)]
+#[derive(Clone, Copy)]
 pub enum UrbCompletionRead {
     Fits(UrbCompletion),
     Fails(Fault),

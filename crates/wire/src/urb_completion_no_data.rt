@@ -13,7 +13,7 @@ use header::ids::RequestId;
 use words::layout::{Fault, Part};
 use words::numbers::rest;
 
-#[derive(Drop)]
+#[derive(Clone, Copy)]
 pub struct UrbCompletionNoData {
     pub request: RequestId,
     pub urb: TsUrbResult,
@@ -21,7 +21,7 @@ pub struct UrbCompletionNoData {
     pub size: u32,
 }
 
-#[derive(Drop)]
+#[derive(Clone, Copy)]
 pub enum UrbCompletionNoDataRead {
     Fits(UrbCompletionNoData),
     Fails(Fault),

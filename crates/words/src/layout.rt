@@ -1,14 +1,14 @@
 // What the size readers share: a part of a message, and what may break.
 
 // A run of bytes of the message, by its place: nothing is copied.
-#[derive(Drop)]
+#[derive(Clone, Copy)]
 pub struct Part {
     pub start: usize,
     pub size: usize,
 }
 
 // Why sizes do not add up, and at which byte of the message.
-#[derive(Drop)]
+#[derive(Clone, Copy)]
 pub enum Fault {
     // a field, or a counted run, needs more bytes than are left: the byte at which it starts
     RanOut(usize),

@@ -15,7 +15,7 @@ use wire::add_device::AddDevice;
 use words::layout::Part;
 use words::numbers::u16_at;
 
-#[derive(Drop)]
+#[derive(Clone, Copy)]
 pub struct AddDeviceFields {
     // NumUsbDevice
     pub count: u32,

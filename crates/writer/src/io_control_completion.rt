@@ -10,7 +10,7 @@ use pieces::piece::Piece;
 use wire::io_control_completion::IoControlCompletion;
 use words::layout::Part;
 
-#[derive(Drop)]
+#[derive(Clone, Copy)]
 pub struct IoControlCompletionFields {
     pub request: RequestId,
     pub result: u32,

@@ -25,7 +25,7 @@ use wire::io_control::IoControl;
 use wire::retract_device::RetractDevice;
 
 // The fields of a message as 000 names them, without those that follow from others; before them, for the kinds that go to a device or to a callback, the interface. Kind 12 is kind 11 with NoAck.
-#[derive(Drop)]
+#[derive(Clone, Copy)]
 pub enum Fields {
     CapabilityRequest(CapabilityRequest),
     CapabilityResponse(CapabilityResponse),

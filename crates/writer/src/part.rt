@@ -4,7 +4,7 @@ ghost use Rattle.writer.specs.Part.{part_allowed};
 
 use words::layout::Part;
 
-#[derive(Drop)]
+#[derive(Clone, Copy)]
 pub struct Lent {}
 
 impl Lent {

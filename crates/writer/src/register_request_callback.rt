@@ -9,13 +9,13 @@ use pieces::piece::Piece;
 use wire::register_request_callback::RegisterRequestCallback;
 
 // RequestCompletion, its top two bits too.
-#[derive(Drop)]
+#[derive(Clone, Copy)]
 pub enum RequestCompletion {
     Nothing,
     Is(u32),
 }
 
-#[derive(Drop)]
+#[derive(Clone, Copy)]
 pub struct RegisterRequestCallbackFields {
     // NumRequestCompletion
     pub count: u32,

@@ -17,14 +17,14 @@ use wire::transfer_in_request::TransferInRequest;
 use wire::transfer_out_request::TransferOutRequest;
 use words::layout::Part;
 
-#[derive(Drop)]
+#[derive(Clone, Copy)]
 pub struct TransferInFields {
     pub urb: TsUrbFields,
     // OutputBufferSize
     pub size: u32,
 }
 
-#[derive(Drop)]
+#[derive(Clone, Copy)]
 pub struct TransferOutFields {
     pub urb: TsUrbFields,
     pub output: Part,

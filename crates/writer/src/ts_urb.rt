@@ -19,7 +19,7 @@ use urb::ts_urb::Urb;
 use words::layout::Part;
 use words::numbers::byte_at;
 
-#[derive(Drop)]
+#[derive(Clone, Copy)]
 pub struct SelectConfigurationFields {
     // ConfigurationDescriptorIsValid
     pub flag: u32,
@@ -30,14 +30,14 @@ pub struct SelectConfigurationFields {
     pub descriptor: Part,
 }
 
-#[derive(Drop)]
+#[derive(Clone, Copy)]
 pub struct SelectInterfaceFields {
     // ConfigurationHandle
     pub handle: u32,
     pub interface: Part,
 }
 
-#[derive(Drop)]
+#[derive(Clone, Copy)]
 pub struct IsochTransferFields {
     pub pipe: u32,
     pub flags: u32,
@@ -47,7 +47,7 @@ pub struct IsochTransferFields {
 }
 
 // The structures by their fields; those that a reader finds with nothing computed in them are the reader's.
-#[derive(Drop)]
+#[derive(Clone, Copy)]
 pub enum Structure {
     SelectConfiguration(SelectConfigurationFields),
     SelectInterface(SelectInterfaceFields),
@@ -58,7 +58,7 @@ pub enum Structure {
     IsochTransfer(IsochTransferFields),
 }
 
-#[derive(Drop)]
+#[derive(Clone, Copy)]
 pub struct TsUrbFields {
     pub function: u32,
     pub request: RequestId,
@@ -67,14 +67,14 @@ pub struct TsUrbFields {
 }
 
 // What the reader is to make of a structure, if it can be written at all.
-#[derive(Drop)]
+#[derive(Clone, Copy)]
 pub enum Stated {
     Nothing,
     Is(Urb),
 }
 
 // The largest NumberOfPipes of an interface list, if it fills its part.
-#[derive(Drop)]
+#[derive(Clone, Copy)]
 pub enum Listed {
     Nothing,
     Pipes(u32),

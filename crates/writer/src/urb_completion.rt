@@ -14,7 +14,7 @@ use wire::urb_completion_no_data::UrbCompletionNoData;
 use words::layout::Part;
 
 // What both begin with.
-#[derive(Drop)]
+#[derive(Clone, Copy)]
 pub struct UrbResultFields {
     pub request: RequestId,
     // UsbdStatus
@@ -25,13 +25,13 @@ pub struct UrbResultFields {
     pub result: u32,
 }
 
-#[derive(Drop)]
+#[derive(Clone, Copy)]
 pub struct UrbCompletionFields {
     pub urb: UrbResultFields,
     pub output: Part,
 }
 
-#[derive(Drop)]
+#[derive(Clone, Copy)]
 pub struct UrbCompletionNoDataFields {
     pub urb: UrbResultFields,
     // OutputBufferSize
