@@ -18,6 +18,7 @@ pub enum Held {
 }
 
 // The lowest row that is the open request of an id.
+#[tactic(auto, using(rows::proofs::Steps::first_step, rows::proofs::Steps::first_end))]
 pub(crate) fn find(c: Channel, id: RequestId) -> Found
     ensures { result ≡ find_of c id }
 {

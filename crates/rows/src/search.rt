@@ -11,6 +11,7 @@ pub enum Found {
     Nothing,
 }
 
+#[tactic(auto, using(crate::proofs::Steps::first_step, crate::proofs::Steps::first_end))]
 pub fn lowest_free(c: Channel) -> Found
     ensures { result ≡ lowest_of c }
 {
@@ -25,6 +26,7 @@ pub fn lowest_free(c: Channel) -> Found
     Found::Nothing
 }
 
+#[tactic(auto, using(crate::proofs::Steps::count_step, crate::proofs::Steps::count_end))]
 pub fn count_open(c: Channel) -> u32
     ensures { result ≡ open_count c.rows }
 {
