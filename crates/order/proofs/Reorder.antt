@@ -7,7 +7,7 @@ use mathlib.Core.List.{List, [], ◌∷◌, ◌++◌, map}
 use Prim.Native.Nat.{ℕ, zero, suc, ◌≤◌}
 use lib.Dec.{eqb}
 use borrow.Author.Tests.{eq-eqb, eqb-false, eqb-true, ne_eqb}
-use lib.ListN.{length, get_or, set, length-set, length-map, replicate, get_or-map}
+use lib.ListN.{length, get_or, length-set, length-map, replicate, get_or-map}
 use lib.Seq.{ext_get_or}
 use Rattle.order.specs.Machine.{Machine, Tagged, calls, ends, given_on, gives, keep, numbers, ren_g}
 use Rattle.order.specs.Reorder.{Reordered, Renumbers, SameUnder}

@@ -1,5 +1,5 @@
 -- The interfaces of a select URB, and their pipes (000 2.2.9.1.2, 2.2.9.1.3).
-use Rattle.std.specs.Prelude.{ℕ, zero, suc, ◌+◌, ◌-◌, ◌*◌, List, Bool, cond, ltb, eqb}
+use Rattle.std.specs.Prelude.{ℕ, zero, suc, ◌+◌, ◌*◌, List, Bool, cond, ltb, eqb}
 use Rattle.words.specs.Words.{half_at, word_at}
 use Rattle.words.specs.Layout.{left}
 use Rattle.urb.specs.declared.interfaces.Walk.{Walk}

@@ -2,7 +2,6 @@
 use Rattle.std.specs.Prelude.{ℕ, ◌+◌, ◌*◌, List, length, eqb}
 use Rattle.words.specs.Words.{word_at}
 use Rattle.words.specs.Layout.{left, agrees, at_least}
-use Rattle.urb.specs.declared.isoch_transfer.IsochTransfer.{IsochTransfer}
 use Rattle.urb.specs.declared.ts_urb.Urb.TheVariants as urb
 use Rattle.urb.specs.declared.ts_urb.StructureRead.{StructureRead}
 use Rattle.urb.specs.declared.ts_urb.StructureRead.TheVariants.{Fits, Fails}

@@ -3,7 +3,6 @@ use Rattle.std.specs.Prelude.{ℕ, ◌+◌, ◌-◌, List, cond, length, eqb}
 use Rattle.words.specs.Words.{byte_at, word_at}
 use Rattle.words.specs.Layout.{left, field}
 use Rattle.urb.specs.Interfaces.{interfaces_of}
-use Rattle.urb.specs.declared.select_configuration.SelectConfiguration.{SelectConfiguration}
 use Rattle.urb.specs.declared.select_configuration.DescriptorRead.{DescriptorRead}
 use Rattle.urb.specs.declared.select_configuration.DescriptorRead.TheVariants as descriptor
 use Rattle.urb.specs.declared.interfaces.Walk.{Walk}

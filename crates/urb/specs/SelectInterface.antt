@@ -3,7 +3,6 @@ use Rattle.std.specs.Prelude.{ℕ, ◌-◌, List}
 use Rattle.words.specs.Words.{word_at}
 use Rattle.words.specs.Layout.{field}
 use Rattle.urb.specs.Interfaces.{interfaces_of}
-use Rattle.urb.specs.declared.select_interface.SelectInterface.{SelectInterface}
 use Rattle.urb.specs.declared.interfaces.Walk.{Walk}
 use Rattle.urb.specs.declared.interfaces.Walk.TheVariants as walk
 use Rattle.urb.specs.declared.ts_urb.Urb.TheVariants as urb

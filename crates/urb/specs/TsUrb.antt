@@ -1,5 +1,5 @@
 -- A TS_URB (000 2.2.9). u is the message up to the end of its TsUrb, which starts at byte 16.
-use Rattle.std.specs.Prelude.{ℕ, ◌-◌, List, [], ◌∷◌, cond, length, eqb}
+use Rattle.std.specs.Prelude.{ℕ, List, [], ◌∷◌, cond, length, eqb}
 use Rattle.words.specs.Words.{half_at, word_at}
 use Rattle.header.specs.Ids.{urb_request_in, no_ack_in}
 use Rattle.words.specs.Layout.{left, agrees}

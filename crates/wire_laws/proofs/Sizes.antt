@@ -1,5 +1,5 @@
 -- Laws of the size reader: a message that fits is as long as its fields add up to, and its parts lie within it.
-use Prim.Native.Nat.{ℕ, ◌+◌, ◌-◌, ◌≤◌}
+use Prim.Native.Nat.{ℕ, ◌+◌, ◌≤◌}
 use native.Mathlib.Omega.{arith}
 use mathlib.Core.Path.{◌≡◌, refl, subst}
 use mathlib.Core.List.{List}

@@ -1,5 +1,5 @@
 -- ADD_DEVICE (000 2.2.4.2), kind 6.
-use Rattle.std.specs.Prelude.{ℕ, ◌+◌, ◌-◌, ◌/◌, ◌%◌, Bool, false, cond, ◌&&◌, eqb, ltb, List, [], ◌∷◌, ◌++◌}
+use Rattle.std.specs.Prelude.{ℕ, ◌+◌, ◌-◌, ◌/◌, ◌%◌, Bool, cond, ◌&&◌, eqb, ltb, List, [], ◌∷◌, ◌++◌}
 use Rattle.words.specs.Words.{half_at}
 use Rattle.words.specs.declared.layout.Part.{Part}
 use Rattle.header.specs.Ids.{assignable, interface_in}

@@ -6,7 +6,6 @@ use Rattle.urb.specs.Interfaces.{interfaces_of}
 use Rattle.urb.specs.declared.interfaces.Walk.{Walk}
 use Rattle.urb.specs.declared.interfaces.Walk.TheVariants as walk
 use Rattle.urb.specs.declared.control_transfer.ControlTransfer.{ControlTransfer}
-use Rattle.urb.specs.declared.ts_urb.Urb.{Urb}
 use Rattle.urb.specs.declared.ts_urb.Urb.TheVariants as urb
 use Rattle.pieces.specs.declared.piece.Piece.{Piece}
 use Rattle.pieces.specs.declared.piece.Piece.TheVariants as piece

@@ -1,10 +1,5 @@
 -- `device::device_capabilities::rows_allow` meets its contract. The invariant: the rows from `k` on say what all of them say.
-use Prim.Native.Nat.{◌≤◌, ◌-◌}
-use mathlib.Core.Path.{◌≡◌}
-use lib.ListN.{drop}
 use native.Mathlib.Omega.{arith}
-use borrow.Author.Tests.{not-false, not-true}
-use Rattle.device.specs.DeviceCapabilities.{capability_rows, field_by, rows_allow}
 use Rattle.device.proofs.Walk.{row_refuses, row_passes, rows_passed, rows_count}
 use Rattle.device.proofs.device_capabilities.rows_allow.Goals as goal
 

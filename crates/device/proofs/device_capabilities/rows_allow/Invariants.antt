@@ -2,10 +2,7 @@
 use Prim.Native.Nat.{◌≤◌, ◌-◌}
 use mathlib.Core.Path.{◌≡◌}
 use lib.ListN.{drop}
-use native.Mathlib.Omega.{arith}
-use borrow.Author.Tests.{not-false, not-true}
 use Rattle.device.specs.DeviceCapabilities.{capability_rows, field_by, rows_allow}
-use Rattle.device.proofs.Walk.{row_refuses, row_passes, rows_passed, rows_count}
 use Rattle.device.proofs.device_capabilities.rows_allow.Given as goal
 
 abbrev pub invariant-loop-k : goal.invariant-loop-k
@@ -13,4 +10,3 @@ invariant-loop-k l = (l.k ≤ 7) × (rows_allow (field_by l.c) (drop l.k l.rows)
 
 abbrev pub decreases-loop-k : goal.decreases-loop-k
 decreases-loop-k l = 7 - l.k
-

@@ -1,6 +1,5 @@
 -- `device::device_capabilities::word` meets its contract: no row starts behind byte 24.
 use native.Mathlib.Omega.{arith}
-use Rattle.device.specs.DeviceCapabilities.{offset_at}
 use Rattle.device.proofs.Walk.{offset_bound}
 use Rattle.device.proofs.device_capabilities.word.Goals as goal
 

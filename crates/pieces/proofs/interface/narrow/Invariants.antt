@@ -1,9 +1,7 @@
 -- `pieces::interface::narrow` meets its contract. The invariant: the pipes left give what all of them give.
 use Prim.Native.Nat.{◌+◌, ◌*◌, ◌-◌, ◌≤◌}
 use mathlib.Core.Path.{◌≡◌}
-use native.Mathlib.Omega.{arith}
 use Rattle.pieces.specs.Interface.{narrow_from}
-use Rattle.pieces.proofs.Numbers.{narrow_end, narrow_on, narrow_wide}
 use Rattle.pieces.proofs.interface.narrow.Given as goal
 
 abbrev pub invariant-loop-i : goal.invariant-loop-i

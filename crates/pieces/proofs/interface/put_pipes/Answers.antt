@@ -1,11 +1,8 @@
 -- `pieces::interface::put_pipes` meets its contract. The invariant: the numbers left, written from here on, give all of them.
-use Prim.Native.Nat.{◌*◌, ◌-◌, ◌≤◌}
-use mathlib.Core.Path.{◌≡◌, refl, ap, ◌∙◌}
-use lib.ListN.{drop, length}
+use mathlib.Core.Path.{ap, ◌∙◌}
+use lib.ListN.{length}
 use native.Mathlib.Omega.{arith}
-use Rattle.words.specs.Written.{written}
 use Rattle.words.proofs.Written.{length-written}
-use Rattle.pieces.specs.Interface.{numbers_bytes}
 use Rattle.pieces.proofs.Numbers.{pipes_again, pipes_end}
 use Rattle.pieces.proofs.interface.put_pipes.Goals as goal
 

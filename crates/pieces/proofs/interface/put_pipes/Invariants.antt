@@ -1,12 +1,9 @@
 -- `pieces::interface::put_pipes` meets its contract. The invariant: the numbers left, written from here on, give all of them.
 use Prim.Native.Nat.{◌*◌, ◌-◌, ◌≤◌}
-use mathlib.Core.Path.{◌≡◌, refl, ap, ◌∙◌}
+use mathlib.Core.Path.{◌≡◌}
 use lib.ListN.{drop, length}
-use native.Mathlib.Omega.{arith}
 use Rattle.words.specs.Written.{written}
-use Rattle.words.proofs.Written.{length-written}
 use Rattle.pieces.specs.Interface.{numbers_bytes}
-use Rattle.pieces.proofs.Numbers.{pipes_again, pipes_end}
 use Rattle.pieces.proofs.interface.put_pipes.Given as goal
 
 abbrev pub invariant-loop-i : goal.invariant-loop-i

@@ -1,6 +1,5 @@
 -- `pieces::interface::write` meets its contract.
-use Rattle.std.proofs.Common.{◌≡◌, ◌≤◌, refl, length, arith, true}
-use Rattle.pieces.specs.Interface.{numbers_allowed}
+use Rattle.std.proofs.Common.{refl, arith}
 use Rattle.pieces.proofs.Numbers.{allowed_three, write_room, write_value, write_whole}
 use Rattle.pieces.proofs.interface.write.Goals as goal
 

@@ -1,11 +1,8 @@
 -- `pieces::piece::add_up` meets its contract. The invariant: the pieces left, behind what the others make up, come to what all of them come to.
 use Prim.Native.Nat.{◌-◌, ◌≤◌}
-use mathlib.Core.Path.{◌≡◌, refl}
+use mathlib.Core.Path.{◌≡◌}
 use lib.ListN.{drop, length}
-use native.Mathlib.Omega.{arith}
-use borrow.Author.Tests.{not-false, not-true}
 use Rattle.pieces.specs.Pieces.{total_from}
-use Rattle.pieces.proofs.Pieces.{length_of, total_end, total_on, total_outside, total_over}
 use Rattle.pieces.proofs.piece.add_up.Given as goal
 
 abbrev pub invariant-loop-i : goal.invariant-loop-i

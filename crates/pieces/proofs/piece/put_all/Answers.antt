@@ -1,13 +1,9 @@
 -- `pieces::piece::put_all` meets its contract. The invariant: the pieces left add up to the same behind what is written, and written from here on give the whole message.
-use Prim.Native.Nat.{◌-◌, ◌≤◌}
-use mathlib.Core.Path.{◌≡◌, refl, ap, ◌∙◌}
-use lib.ListN.{drop, length}
+use mathlib.Core.Path.{ap, ◌∙◌}
+use lib.ListN.{length}
 use native.Mathlib.Omega.{arith}
-use Rattle.words.specs.Written.{written}
 use Rattle.words.proofs.Written.{length-written}
-use Rattle.pieces.specs.Pieces.{encode, total_from}
-use Rattle.pieces.specs.declared.piece.Total.TheVariants as total
-use Rattle.pieces.proofs.Pieces.{all_again, all_end, length_of, total_at}
+use Rattle.pieces.proofs.Pieces.{all_again, all_end, total_at}
 use Rattle.pieces.proofs.piece.put_all.Goals as goal
 
 pub put-requires : goal.put-requires

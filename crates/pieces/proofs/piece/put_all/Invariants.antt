@@ -1,13 +1,10 @@
 -- `pieces::piece::put_all` meets its contract. The invariant: the pieces left add up to the same behind what is written, and written from here on give the whole message.
 use Prim.Native.Nat.{◌-◌, ◌≤◌}
-use mathlib.Core.Path.{◌≡◌, refl, ap, ◌∙◌}
+use mathlib.Core.Path.{◌≡◌}
 use lib.ListN.{drop, length}
-use native.Mathlib.Omega.{arith}
 use Rattle.words.specs.Written.{written}
-use Rattle.words.proofs.Written.{length-written}
 use Rattle.pieces.specs.Pieces.{encode, total_from}
 use Rattle.pieces.specs.declared.piece.Total.TheVariants as total
-use Rattle.pieces.proofs.Pieces.{all_again, all_end, length_of, total_at}
 use Rattle.pieces.proofs.piece.put_all.Given as goal
 
 abbrev pub invariant-loop-i : goal.invariant-loop-i

@@ -1,12 +1,9 @@
 -- `pieces::piece::put_interfaces` meets its contract. The invariant: the rows left, written from here on, give all of them.
 use Prim.Native.Nat.{◌+◌, ◌*◌, ◌-◌, ◌≤◌}
-use mathlib.Core.Path.{◌≡◌, refl, ap, ◌∙◌}
+use mathlib.Core.Path.{◌≡◌}
 use lib.ListN.{length}
-use native.Mathlib.Omega.{arith}
 use Rattle.words.specs.Written.{written}
-use Rattle.words.proofs.Written.{length-written}
 use Rattle.pieces.specs.Pieces.{rows_from}
-use Rattle.pieces.proofs.Pieces.{rows_start, rows_again, rows_end}
 use Rattle.pieces.proofs.piece.put_interfaces.Given as goal
 
 abbrev pub invariant-loop-i : goal.invariant-loop-i

@@ -1,10 +1,7 @@
 -- `pieces::piece::put_run` meets its contract. The invariant: the bytes left, written from here on, give the whole part.
-use Prim.Native.Nat.{◌+◌, ◌-◌, ◌≤◌}
-use mathlib.Core.Path.{◌≡◌, refl}
-use lib.ListN.{drop, length, length-set, take}
+use lib.ListN.{length-set}
 use native.Mathlib.Omega.{arith}
-use Rattle.words.specs.Written.{written}
-use Rattle.pieces.proofs.Pieces.{run_start, run_again, run_end}
+use Rattle.pieces.proofs.Pieces.{run_again, run_end}
 use Rattle.pieces.proofs.piece.put_run.Goals as goal
 
 pub loop-i-preserved : goal.loop-i-preserved

@@ -1,10 +1,8 @@
 -- `pieces::piece::put_run` meets its contract. The invariant: the bytes left, written from here on, give the whole part.
 use Prim.Native.Nat.{◌+◌, ◌-◌, ◌≤◌}
-use mathlib.Core.Path.{◌≡◌, refl}
-use lib.ListN.{drop, length, length-set, take}
-use native.Mathlib.Omega.{arith}
+use mathlib.Core.Path.{◌≡◌}
+use lib.ListN.{drop, length, take}
 use Rattle.words.specs.Written.{written}
-use Rattle.pieces.proofs.Pieces.{run_start, run_again, run_end}
 use Rattle.pieces.proofs.piece.put_run.Given as goal
 
 abbrev pub invariant-loop-i : goal.invariant-loop-i

@@ -1,6 +1,4 @@
 -- `pieces::piece::put_word` meets its contract.
-use native.Mathlib.Omega.{arith}
-use lib.ListN.{length-set}
 use Rattle.words.proofs.Written.{written_four}
 use Rattle.pieces.proofs.piece.put_word.Goals as goal
 

@@ -1,7 +1,6 @@
 -- `urb::interfaces::list` meets its contract. The invariant: what is left of the list, walked from here on, is what the whole list is.
-use mathlib.Core.Path.{◌≡◌, refl, sym, ◌∙◌}
+use mathlib.Core.Path.{refl, sym, ◌∙◌}
 use native.Mathlib.Omega.{arith}
-use Rattle.urb.specs.Interfaces.{interfaces_of}
 use Rattle.urb.proofs.Walk.{interfaces_split}
 use Rattle.urb.proofs.interfaces.list.Goals as goal
 
