@@ -146,3 +146,6 @@ all_kept m at (none ∷ fs) k = let z : at + 0 ≡ at = omega arith in let y : 0
 all_kept m at (empty ∷ fs) k = let z : at + 0 ≡ at = omega arith in let y : 0 + spans_of fs ≡ spans_of fs = omega arith in rw (z, y) (all_kept m at fs k)
 all_kept m at (word ∷ fs) k = ap (λ r. bytes_from m at 4 ++ r) (all_kept m (at + 4) fs k) ∙ joined m at 4 (spans_of fs)
 all_kept m at (run n ∷ fs) k = ap (λ r. bytes_from m at n ++ r) (all_kept m (at + n) fs k) ∙ joined m at n (spans_of fs)
+all_kept m at (half ∷ fs) k = elim k [ ]
+all_kept m at (byte ∷ fs) k = elim k [ ]
+all_kept m at (interfaces _ ∷ fs) k = elim k [ ]

@@ -165,10 +165,10 @@ got_callback : (id : MessageId) (s : List ℕ) → Bytes s → (i count : ℕ) (
 unfolding asked_of reading_of given_in
 got_callback id s bytes i count completes.Nothing n t given wide =
     let w = bytes_of id (fields.RegisterRequestCallback i (record { count = count; completion = completes.Nothing })) s in let q = back.no_callback_back id i count s bytes n t given wide in let k = (split (interface_allowed i) (eqb count 0) given).0 in
-    (q.back, q.long, λ c g. (ap (λ h. first_fitting kinds h server c.device c.callback) (head_read w i 1 0x101 (back.below_30 i k) q.head) ∙ (ap (λ d. first_fitting kinds (headed i 1 (message_in (word_at w 4)) 0x101) server d c.callback) g ∙ register_found i _ (at_least_4 i k) c.callback), passes.register_request_callback_no_out c.jitter (register_request_callback_of w)))
+    (q.back, q.long, λ c g. (ap (λ h. first_fitting kinds h server c.device c.callback) (head_read w i 1 0x101 (back.below_30 i k) q.head) ∙ (ap (λ d. first_fitting kinds (headed i 1 (message_in (word_at w 4)) 0x101) server d c.callback) g ∙ register_found i (message_in (word_at w 4)) (at_least_4 i k) c.callback), passes.register_request_callback_no_out c.jitter (register_request_callback_of w)))
 got_callback id s bytes i count (completes.Is word) n t given wide =
     let w = bytes_of id (fields.RegisterRequestCallback i (record { count = count; completion = (completes.Is word) })) s in let q = back.callback_back id i count word s bytes n t given wide in let k = (split (interface_allowed i) (completion_allowed count (completes.Is word)) given).0 in
-    (q.back, q.long, λ c g. (ap (λ h. first_fitting kinds h server c.device c.callback) (head_read w i 1 0x101 (back.below_30 i k) q.head) ∙ (ap (λ d. first_fitting kinds (headed i 1 (message_in (word_at w 4)) 0x101) server d c.callback) g ∙ register_found i _ (at_least_4 i k) c.callback), passes.register_request_callback_no_out c.jitter (register_request_callback_of w)))
+    (q.back, q.long, λ c g. (ap (λ h. first_fitting kinds h server c.device c.callback) (head_read w i 1 0x101 (back.below_30 i k) q.head) ∙ (ap (λ d. first_fitting kinds (headed i 1 (message_in (word_at w 4)) 0x101) server d c.callback) g ∙ register_found i (message_in (word_at w 4)) (at_least_4 i k) c.callback), passes.register_request_callback_no_out c.jitter (register_request_callback_of w)))
 
 got : (id : MessageId) (s : List ℕ) → Bytes s → (f : Fields) → Gets id f s
 unfolding asked_of reading_of given_in transfer_in_given transfer_out_given
@@ -193,31 +193,31 @@ got id s bytes (fields.AddDevice b) n t given wide =
 got id s bytes (fields.RegisterRequestCallback i b) n t given wide = got_callback id s bytes i b.count b.completion n t given wide
 got id s bytes (fields.IoControl i b) n t given wide =
     let w = bytes_of id (fields.IoControl i b) s in let q = back.io_control_back id i b s bytes n t given wide in let k = (split (interface_allowed i) (part_allowed s b.input) given).0 in
-    (q.back, q.long, λ c g. (ap (λ h. first_fitting kinds h server c.device c.callback) (head_read w i 1 0x102 (back.below_30 i k) q.head) ∙ (ap (λ d. first_fitting kinds (headed i 1 (message_in (word_at w 4)) 0x102) server d c.callback) g ∙ io_found i _ (at_least_4 i k) c.callback), passes.io_control_no_out c.jitter (io_control_of w)))
+    (q.back, q.long, λ c g. (ap (λ h. first_fitting kinds h server c.device c.callback) (head_read w i 1 0x102 (back.below_30 i k) q.head) ∙ (ap (λ d. first_fitting kinds (headed i 1 (message_in (word_at w 4)) 0x102) server d c.callback) g ∙ io_found i (message_in (word_at w 4)) (at_least_4 i k) c.callback), passes.io_control_no_out c.jitter (io_control_of w)))
 got id s bytes (fields.InternalIoControl i b) n t given wide =
     let w = bytes_of id (fields.InternalIoControl i b) s in let q = back.internal_back id i b s bytes n t given wide in let k = (split (interface_allowed i) (part_allowed s b.input) given).0 in
-    (q.back, q.long, λ c g. (ap (λ h. first_fitting kinds h server c.device c.callback) (head_read w i 1 0x103 (back.below_30 i k) q.head) ∙ (ap (λ d. first_fitting kinds (headed i 1 (message_in (word_at w 4)) 0x103) server d c.callback) g ∙ internal_found i _ (at_least_4 i k) c.callback), passes.io_control_no_out c.jitter (io_control_of w)))
+    (q.back, q.long, λ c g. (ap (λ h. first_fitting kinds h server c.device c.callback) (head_read w i 1 0x103 (back.below_30 i k) q.head) ∙ (ap (λ d. first_fitting kinds (headed i 1 (message_in (word_at w 4)) 0x103) server d c.callback) g ∙ internal_found i (message_in (word_at w 4)) (at_least_4 i k) c.callback), passes.io_control_no_out c.jitter (io_control_of w)))
 got id s bytes (fields.TransferInRequest i b) n t given wide =
     let w = bytes_of id (fields.TransferInRequest i b) s in let q = in_back id i b s bytes n t given wide in let k = (split (interface_allowed i) (request_allowed b.urb.request && incoming_by b (stated_of s b.urb.function b.urb.structure)) given).0 in
-    (q.back, q.long, λ c g. (ap (λ h. first_fitting kinds h server c.device c.callback) (head_read w i 1 0x105 (back.below_30 i k) q.head) ∙ (ap (λ d. first_fitting kinds (headed i 1 (message_in (word_at w 4)) 0x105) server d c.callback) g ∙ in_found i _ (at_least_4 i k) c.callback), passes.transfer_in_request_no_out c.jitter (transfer_in_request_of w)))
+    (q.back, q.long, λ c g. (ap (λ h. first_fitting kinds h server c.device c.callback) (head_read w i 1 0x105 (back.below_30 i k) q.head) ∙ (ap (λ d. first_fitting kinds (headed i 1 (message_in (word_at w 4)) 0x105) server d c.callback) g ∙ in_found i (message_in (word_at w 4)) (at_least_4 i k) c.callback), passes.transfer_in_request_no_out c.jitter (transfer_in_request_of w)))
 got id s bytes (fields.TransferOutRequest i b) n t given wide =
     let w = bytes_of id (fields.TransferOutRequest i b) s in let o = out_back id i b s bytes n t given wide in let q = o.0 in let k = (split (interface_allowed i) (request_allowed b.urb.request && (part_allowed s b.output && outgoing_by b (stated_of s b.urb.function b.urb.structure))) given).0 in
-    (q.back, q.long, λ c g. (ap (λ h. first_fitting kinds h server c.device c.callback) (head_read w i 1 0x106 (back.below_30 i k) q.head) ∙ (ap (λ d. first_fitting kinds (headed i 1 (message_in (word_at w 4)) 0x106) server d c.callback) g.0 ∙ out_found i _ (at_least_4 i k) c.callback), subst (passes.NoAckAllowed c.jitter) (sym o.2) (λ e. g.1 (sym o.3 ∙ e))))
+    (q.back, q.long, λ c g. (ap (λ h. first_fitting kinds h server c.device c.callback) (head_read w i 1 0x106 (back.below_30 i k) q.head) ∙ (ap (λ d. first_fitting kinds (headed i 1 (message_in (word_at w 4)) 0x106) server d c.callback) g.0 ∙ out_found i (message_in (word_at w 4)) (at_least_4 i k) c.callback), subst (passes.NoAckAllowed c.jitter) (sym o.2) (λ e. g.1 (sym o.3 ∙ e))))
 got id s bytes (fields.CancelRequest i b) n t given wide =
     let w = bytes_of id (fields.CancelRequest i b) s in let q = back.cancel_back id i b s bytes n t given wide in let k = given in
-    (q.back, q.long, λ c g. (ap (λ h. first_fitting kinds h server c.device c.callback) (head_read w i 1 0x100 (back.below_30 i k) q.head) ∙ (ap (λ d. first_fitting kinds (headed i 1 (message_in (word_at w 4)) 0x100) server d c.callback) g ∙ cancel_found i _ (at_least_4 i k) c.callback), passes.cancel_request_no_out c.jitter (cancel_request_of w)))
+    (q.back, q.long, λ c g. (ap (λ h. first_fitting kinds h server c.device c.callback) (head_read w i 1 0x100 (back.below_30 i k) q.head) ∙ (ap (λ d. first_fitting kinds (headed i 1 (message_in (word_at w 4)) 0x100) server d c.callback) g ∙ cancel_found i (message_in (word_at w 4)) (at_least_4 i k) c.callback), passes.cancel_request_no_out c.jitter (cancel_request_of w)))
 got id s bytes (fields.RetractDevice i b) n t given wide =
     let w = bytes_of id (fields.RetractDevice i b) s in let q = back.retract_back id i b s bytes n t given wide in let k = (split (interface_allowed i) (retract_device_allowed b) given).0 in
-    (q.back, q.long, λ c g. (ap (λ h. first_fitting kinds h server c.device c.callback) (head_read w i 1 0x107 (back.below_30 i k) q.head) ∙ (ap (λ d. first_fitting kinds (headed i 1 (message_in (word_at w 4)) 0x107) server d c.callback) g ∙ retract_found i _ (at_least_4 i k) c.callback), passes.retract_device_no_out c.jitter (retract_device_of w)))
+    (q.back, q.long, λ c g. (ap (λ h. first_fitting kinds h server c.device c.callback) (head_read w i 1 0x107 (back.below_30 i k) q.head) ∙ (ap (λ d. first_fitting kinds (headed i 1 (message_in (word_at w 4)) 0x107) server d c.callback) g ∙ retract_found i (message_in (word_at w 4)) (at_least_4 i k) c.callback), passes.retract_device_no_out c.jitter (retract_device_of w)))
 got id s bytes (fields.IoControlCompletion i b) n t given wide =
     let w = bytes_of id (fields.IoControlCompletion i b) s in let q = back.io_completion_back id i b s bytes n t given wide in let k = (split (interface_allowed i) (part_allowed s b.output) given).0 in
-    (q.back, q.long, λ c g. (ap (λ h. first_fitting kinds h client c.device c.callback) (head_read w i 1 0x100 (back.below_30 i k) q.head) ∙ (ap (λ d. first_fitting kinds (headed i 1 (message_in (word_at w 4)) 0x100) client c.device d) g ∙ io_completed_found i _ (at_least_4 i k) c.device), passes.io_control_completion_no_out c.jitter (io_control_completion_of w)))
+    (q.back, q.long, λ c g. (ap (λ h. first_fitting kinds h client c.device c.callback) (head_read w i 1 0x100 (back.below_30 i k) q.head) ∙ (ap (λ d. first_fitting kinds (headed i 1 (message_in (word_at w 4)) 0x100) client c.device d) g ∙ io_completed_found i (message_in (word_at w 4)) (at_least_4 i k) c.device), passes.io_control_completion_no_out c.jitter (io_control_completion_of w)))
 got id s bytes (fields.UrbCompletion i b) n t given wide =
     let w = bytes_of id (fields.UrbCompletion i b) s in let q = back.urb_completion_back id i b s bytes n t given wide in let k = (split (interface_allowed i) (part_allowed s b.urb.rest) (split (result_given s i b.urb) (part_allowed s b.output && not (eqb b.output.size 0)) given).0).0 in
-    (q.back, q.long, λ c g. (ap (λ h. first_fitting kinds h client c.device c.callback) (head_read w i 1 0x101 (back.below_30 i k) q.head) ∙ (ap (λ d. first_fitting kinds (headed i 1 (message_in (word_at w 4)) 0x101) client c.device d) g ∙ completed_found i _ (at_least_4 i k) c.device), passes.urb_completion_no_out c.jitter (urb_completion_of w)))
+    (q.back, q.long, λ c g. (ap (λ h. first_fitting kinds h client c.device c.callback) (head_read w i 1 0x101 (back.below_30 i k) q.head) ∙ (ap (λ d. first_fitting kinds (headed i 1 (message_in (word_at w 4)) 0x101) client c.device d) g ∙ completed_found i (message_in (word_at w 4)) (at_least_4 i k) c.device), passes.urb_completion_no_out c.jitter (urb_completion_of w)))
 got id s bytes (fields.UrbCompletionNoData i b) n t given wide =
     let w = bytes_of id (fields.UrbCompletionNoData i b) s in let q = back.no_data_back id i b s bytes n t given wide in let k = (split (interface_allowed i) (part_allowed s b.urb.rest) given).0 in
-    (q.back, q.long, λ c g. (ap (λ h. first_fitting kinds h client c.device c.callback) (head_read w i 1 0x102 (back.below_30 i k) q.head) ∙ (ap (λ d. first_fitting kinds (headed i 1 (message_in (word_at w 4)) 0x102) client c.device d) g ∙ no_data_found i _ (at_least_4 i k) c.device), passes.urb_completion_no_data_no_out c.jitter (urb_completion_no_data_of w)))
+    (q.back, q.long, λ c g. (ap (λ h. first_fitting kinds h client c.device c.callback) (head_read w i 1 0x102 (back.below_30 i k) q.head) ∙ (ap (λ d. first_fitting kinds (headed i 1 (message_in (word_at w 4)) 0x102) client c.device d) g ∙ no_data_found i (message_in (word_at w 4)) (at_least_4 i k) c.device), passes.urb_completion_no_data_no_out c.jitter (urb_completion_no_data_of w)))
 
 -- what is written was given, and its pieces fit
 fit : (room n : ℕ) (x : Total) → pieces.written_by room x ≡ Whole n → x ≡ total.Fits n
