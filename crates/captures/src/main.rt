@@ -4,48 +4,46 @@
 
 use listing::capture;
 use listing::capture::What;
+use std::env;
+use std::fs::File;
+use std::io::{Error, Read};
 
-fn main() {
-    let count = os::arg_count();
+fn main(rt: HostRuntime) -> Result<(), Error> {
     let mut payloads = false;
-    let mut i: usize = 1;
-    while i < count {
-        payloads = of_word(i, payloads);
-        i += 1;
+    for word in env::args(&rt)?.skip(1) {
+        payloads = of_word(&rt, word.as_str(), payloads);
     }
+    Ok(())
 }
 
 // Does what a word says, and answers whether payloads are listed behind it.
-fn of_word(i: usize, payloads: bool) -> bool {
-    let mut space = io::buffer();
-    let size = os::arg(i, &mut space);
-    if size == 0 || space[0] != b'-' {
-        of_file(&space[..size], payloads);
+fn of_word(rt: &HostRuntime, word: &str, payloads: bool) -> bool {
+    if !word.starts_with('-') {
+        of_file(rt, word, payloads);
         return payloads;
     }
-    if size == 1 {
-        of_descriptor(0, payloads);
+    if word == "-" {
+        of_reader(&mut rt.stdin(), payloads);
         return payloads;
     }
     true
 }
 
-fn of_file(name: &[u8], payloads: bool) {
-    let fd = os::open_read(name);
-    if fd < 0 {
-        io::write_all(1, b"no file ");
-        io::write_all(1, name);
-        io::write_all(1, b"\n");
-        return;
+fn of_file(rt: &HostRuntime, name: &str, payloads: bool) {
+    match File::open(rt, name) {
+        Ok(mut file) => of_reader(&mut file, payloads),
+        Err(_) => {
+            io::write_all(1, b"no file ");
+            io::write_all(1, name.as_bytes());
+            io::write_all(1, b"\n");
+        }
     }
-    of_descriptor(fd, payloads);
-    libc::close(fd);
 }
 
-fn of_descriptor(fd: i32, payloads: bool) {
+fn of_reader<R: Read>(reader: &mut R, payloads: bool) {
     if payloads {
-        capture::run(fd, What::Payloads);
+        capture::run(reader, What::Payloads);
     } else {
-        capture::run(fd, What::Entries);
+        capture::run(reader, What::Entries);
     }
 }

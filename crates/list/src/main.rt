@@ -4,6 +4,6 @@
 use listing::capture;
 use listing::capture::What;
 
-fn main() {
-    capture::run(0, What::Entries);
+fn main(rt: HostRuntime) {
+    capture::run(&mut rt.stdin(), What::Entries);
 }

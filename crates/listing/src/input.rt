@@ -1,6 +1,8 @@
 // Reading: bytes behind those that are held already.
 ghost use Rattle.std.specs.Prelude.{◌≡◌, ◌-◌, ◌≤◌, drop, length, take};
 
+use std::io::Read;
+
 // What is left of a read is less than a record, which has at most 65,547 bytes, so there is always room for more.
 pub(crate) fn space() -> [u8; 131072]
     ensures { 131072 ≡ length result }
@@ -16,16 +18,19 @@ pub(crate) struct More {
 }
 
 // Reads once, behind the `held` bytes at the front.
-pub(crate) fn fetch(fd: i32, bytes: &mut [u8], held: usize) -> More
+pub(crate) fn fetch<R: Read>(reader: &mut R, bytes: &mut [u8], held: usize) -> More
     requires { held ≤ length bytes.old }
     ensures { (held ≤ result.end) × (result.end ≤ length bytes.old) }
 {
-    let part = &mut bytes[held..];
-    let got = libc::read(fd, part);
-    let count = io::count(got, part);
-    More {
-        failed: got < 0,
-        end: held + count,
+    match reader.read(&mut bytes[held..]) {
+        Ok(count) => More {
+            failed: false,
+            end: held + count,
+        },
+        Err(_) => More {
+            failed: true,
+            end: held,
+        },
     }
 }
 
