@@ -1,0 +1,14 @@
+-- `hex` is safe and ends: the bytes left to print fall, and from `at` on there is room for two digits.
+use Prim.Native.Nat.{◌≤◌, ◌-◌}
+use mathlib.Core.Path.{◌≡◌, sym}
+use lib.ListN.{length, length-set}
+use lib.Seq.{length-take-le}
+use native.Mathlib.Omega.{arith}
+use Rattle.field_values.proofs.text.hex.Given as goal
+
+abbrev pub invariant-loop-i : goal.invariant-loop-i
+invariant-loop-i l = (l.i ≤ length l.bytes) × (l.at ≤ 4094) × (length l.space ≡ 4096)
+
+abbrev pub decreases-loop-i : goal.decreases-loop-i
+decreases-loop-i l = length l.bytes - l.i
+
