@@ -3,7 +3,7 @@ use mathlib.Core.Path.{◌≡◌}
 use contract.Lifetimes.{Lfts}
 use denote.Triple.Clauses.{AtExit}
 use borrow.Fn.Kinds.{Dens, res_t, ended_of}
-use Rattle.words.proofs.Determined.{Determined, same}
+use Rattle.words.proofs.Determined.{same}
 use Rattle.payloads.proofs.payload.payload.Reads as payload
 use Rattle.payloads.proofs.payload.payload.Kinds as payload_kinds
 

@@ -27,7 +27,7 @@ use Rattle.kinds.specs.declared.kind.KindFound.{KindFound}
 use Rattle.kinds.specs.declared.kind.KindFound.TheVariants as kind
 use Rattle.channel.specs.declared.channel.Channel.{Channel}
 use Rattle.answers.specs.Phase.{phases_of}
-use Rattle.answers.specs.declared.answer.Answer.TheVariants.{Long, Short, WrongPhase}
+use Rattle.answers.specs.declared.answer.Answer.TheVariants.{Long, WrongPhase}
 use Rattle.rules.specs.Decide.{decided}
 use Rattle.rules.specs.declared.decide.Seen.{Seen}
 use Rattle.rules.specs.declared.verdict.Verdict.{Verdict}

@@ -23,7 +23,6 @@ use Rattle.answers.specs.Answer.{answer_number}
 use Rattle.answers.specs.Phase.{phases_of}
 use Rattle.answers.specs.declared.answer.Answer.{Answer}
 use Rattle.answers.specs.declared.answer.Answer.TheVariants.{AlreadyOpen, Full, NotOpen, ResultDisagrees, TooMuch, Value, WrongSort}
-use Rattle.rules.specs.Verdict.{accepted}
 use Rattle.rules.specs.Request.{opened, taken, taken_at, transfer_out_decided}
 use Rattle.rules.specs.Cancel.{accepted_cancel, cancelled, marks}
 use Rattle.rules.specs.Completion.{closes, io_completed, no_data_completed, result_agrees, urb_closed, urb_completed}

@@ -16,7 +16,6 @@ use Rattle.channel.proofs.Laws.{set_read}
 use Rattle.table.specs.Table.{blank_channel, channel_of, numbered, with_channel}
 use Rattle.answers.specs.declared.entry.Entry.{Entry}
 use Rattle.table.specs.declared.table.Table.{Table}
-use Rattle.journal.specs.Calls.{after}
 use Rattle.promises.specs.Names.{Among, Cancel, Names, Withdraws}
 use Rattle.promises.specs.Sound.{Numbered, row_of, Sound, Used}
 use Rattle.promises.proofs.Kinded.{NoCompletion}

@@ -35,7 +35,7 @@ use Rattle.rules.specs.declared.verdict.Verdict.{Verdict}
 use Rattle.rules.specs.declared.verdict.Verdict.TheVariants.{Refused, Accepted}
 use Rattle.turn.specs.Admit.{admitted}
 use Rattle.turn.specs.Step.{after_of, verdict_by, verdict_of}
-use Rattle.turn.specs.Store.{done, here_of, seen_of, stored}
+use Rattle.turn.specs.Store.{here_of, seen_of, stored}
 use Rattle.turn.specs.declared.admit.Admitted.{Admitted}
 use Rattle.turn.specs.declared.admit.Admitted.TheVariants as admit
 use Rattle.table.specs.Table.{blank_channel, channel_of, close_of, judge_of, open_of}

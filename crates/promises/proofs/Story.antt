@@ -12,7 +12,6 @@ use Rattle.header.specs.declared.ids.RequestId.{RequestId}
 use Rattle.answers.specs.declared.kind.Kind.{Kind}
 use Rattle.wire.specs.declared.message.Asked.{Asked}
 use Rattle.wire.specs.declared.message.Asked.TheVariants as asks
-use Rattle.kinds.specs.Kinds.{kinds}
 use Rattle.channel.specs.Rows.{free_row}
 use Rattle.rows.specs.Search.{lowest_of}
 use Rattle.requests.specs.Held.{find_of, held_at, held_by, held_of, holds}

@@ -1,7 +1,6 @@
 -- 01 "Shown of the rules themselves": the cases C1 to C12, each with what the document says of it, and behind them what 02 R-2 says of C1's request once it is cancelled. Stamps are made up; no case has one.
 use Rattle.std.specs.Prelude.{ℕ, Bool, false, true, List, [], ◌∷◌, ◌++◌, length, replicate, take}
 use Rattle.header.specs.declared.ids.Known.TheVariants as known
-use Rattle.header.specs.declared.ids.RequestId.{RequestId}
 use Rattle.channel.specs.Rows.{free_row, new_channel}
 use Rattle.channel.specs.declared.row.Row.{Row}
 use Rattle.channel.specs.declared.row.Sort.TheVariants.{In}

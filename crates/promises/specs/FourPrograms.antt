@@ -3,7 +3,6 @@ use Rattle.std.specs.Prelude.{List, [], ◌∷◌, ◌≢◌}
 use Rattle.answers.specs.Answer.{answer_number}
 use Rattle.answers.specs.declared.answer.Answer.{Answer}
 use Rattle.answers.specs.declared.answer.Answer.TheVariants.{Accepted}
-use Rattle.answers.specs.declared.entry.Entry.{Entry}
 use Rattle.answers.specs.declared.entry.Noted.{Noted}
 use Rattle.answers.specs.declared.entry.Noted.TheVariants.{Nothing, Is}
 use Rattle.table.specs.Entry.{refused_entry}

@@ -1,10 +1,10 @@
 -- Every message that passes checks 3 to 8 on a table reached from a new one is rebuilt.
-use Prim.Native.Nat.{ℕ, ◌+◌, ◌<◌, ◌≤◌}
+use Prim.Native.Nat.{ℕ, ◌+◌, ◌≤◌}
 use native.Mathlib.Omega.{arith}
-use mathlib.Core.Path.{◌≡◌, refl, ap, sym, subst, ◌∙◌}
-use mathlib.Core.Logic.{◌⊎◌, inl, inr}
+use mathlib.Core.Path.{◌≡◌, refl, ap, ◌∙◌}
+use mathlib.Core.Logic.{inl, inr}
 use mathlib.Core.List.{List}
-use mathlib.Core.Bool.{Bool, true, false, cond}
+use mathlib.Core.Bool.{true}
 use lib.ListN.{length, take}
 use lib.Seq.{take-length}
 use lib.Dec.{eqb, ltb}
@@ -12,13 +12,8 @@ use borrow.Author.Tests.{ltb-false}
 use Rattle.words.specs.Words.{word_at}
 use Rattle.words.proofs.Steps.{either}
 use Rattle.header.specs.Header.{header_of}
-use Rattle.header.specs.declared.shared_msg_header.HeaderRead.{HeaderRead}
-use Rattle.header.specs.declared.shared_msg_header.HeaderRead.TheVariants as header
 use Rattle.header.specs.Ids.{message_in}
-use Rattle.answers.specs.Answer.{answer_number}
 use Rattle.answers.specs.Phase.{phases_of}
-use Rattle.answers.specs.declared.answer.Answer.{Answer}
-use Rattle.answers.specs.declared.answer.Answer.TheVariants as answer
 use Rattle.answers.specs.declared.kind.Kind.{Kind}
 use Rattle.answers.specs.declared.kind.Kind.TheVariants as kind
 use Rattle.wire.specs.Message.{asked_of}
@@ -35,21 +30,18 @@ use Rattle.turn.specs.Admit.{admitted, asks_as, asks_in, from_head, from_header}
 use Rattle.turn.specs.Step.{verdict_by, verdict_of}
 use Rattle.turn.specs.Store.{seen_of}
 use Rattle.turn.specs.declared.admit.Admitted.{Admitted}
-use Rattle.turn.specs.declared.admit.Admitted.TheVariants as admit
 use Rattle.table.specs.Entry.{answer_of}
-use Rattle.table.specs.Table.{channel_of, judge_of, judged_by, open_of, unnumbered, unplaced}
+use Rattle.table.specs.Table.{channel_of, judge_of, open_of}
 use Rattle.table.specs.declared.table.Judged.{Judged}
 use Rattle.table.specs.declared.table.Table.{Table}
 use Rattle.places.specs.Place.{no_place, used_up}
 use Rattle.journal.specs.Calls.{Call, after}
-use Rattle.promises.specs.Sound.{Sound}
 use Rattle.promises.proofs.Sound.{reached_sound}
 use Rattle.pieces.specs.Pieces as pieces
-use Rattle.pieces.specs.declared.piece.Written.TheVariants.{Whole, Room}
 use Rattle.pieces.proofs.Pieces.{encode-length}
-use Rattle.writer.specs.Message.{bytes_of, given_in, pieces_of, written_of}
+use Rattle.writer.specs.Message.{pieces_of, written_of}
 use Rattle.fields.specs.Message.{fields_in}
-use Rattle.writer_laws.specs.Layout.{Bytes, Kept, cleared_from, cuts_from, spans_of}
+use Rattle.writer_laws.specs.Layout.{Bytes, Kept, cleared_from}
 use Rattle.writer_laws.specs.Rebuilt.{Rebuilt, asks_some, layout_of}
 use Rattle.writer_laws.specs.Passed.{Again, HasKind, Passes, Passing, head_in}
 use Rattle.writer_laws.proofs.Cleared.{all_cleared, all_fit, all_kept}

@@ -1,40 +1,29 @@
 -- What is written of ADD_DEVICE is read back as the same fields.
-use Prim.Native.Nat.{ℕ, zero, suc, ◌+◌, ◌-◌, ◌*◌, ◌/◌, ◌%◌, ◌<◌, ◌≤◌}
+use Prim.Native.Nat.{ℕ, ◌+◌, ◌-◌, ◌*◌, ◌/◌, ◌%◌, ◌<◌, ◌≤◌}
 use native.Mathlib.Omega.{arith}
 use mathlib.Core.Path.{◌≡◌, refl, ap, sym, subst, ◌∙◌}
-use mathlib.Core.List.{List, [], ◌∷◌, ◌++◌}
+use mathlib.Core.List.{List}
 use mathlib.Core.Bool.{Bool, true, false, cond, ◌&&◌}
-use lib.Dec.{ltb, leb, eqb}
+use lib.Dec.{ltb, eqb}
 use Rattle.words.specs.Words.{half_at, word_at}
 use Rattle.words.specs.Layout.{left}
 use Rattle.words.specs.declared.layout.Part.{Part}
-use Rattle.texts.specs.Text.{last_unit, list_allowed, prior_unit, text_allowed, text_of, units_of}
-use Rattle.texts.specs.declared.text.Text.{Text}
-use Rattle.texts.specs.declared.text.TextRead.{TextRead}
+use Rattle.texts.specs.Text.{list_allowed, text_allowed, text_of, units_of}
 use Rattle.texts.specs.declared.text.TextRead.TheVariants as text
 use Rattle.device.specs.DeviceCapabilities.{capabilities_allowed, capabilities_of}
 use Rattle.device.specs.declared.device_capabilities.DeviceCapabilities.{DeviceCapabilities}
-use Rattle.device.specs.declared.device_capabilities.CapabilitiesRead.{CapabilitiesRead}
-use Rattle.device.specs.declared.device_capabilities.CapabilitiesRead.TheVariants as capabilities
-use Rattle.wire.specs.AddDevice.{add_device_allowed, add_device_of, classes_from, device_of, device_with, names_from, pair_from, pair_of, pair_with, text_pair_allowed}
-use Rattle.wire.specs.declared.add_device.TextPair.{TextPair}
-use Rattle.wire.specs.declared.add_device.PairRead.{PairRead}
+use Rattle.wire.specs.AddDevice.{add_device_allowed, add_device_of, classes_from, device_of, names_from, pair_from, pair_of, pair_with}
 use Rattle.wire.specs.declared.add_device.PairRead.TheVariants as pair
 use Rattle.wire.specs.declared.add_device.AddDevice.{AddDevice}
-use Rattle.wire.specs.declared.add_device.AddDeviceRead.{AddDeviceRead}
 use Rattle.wire.specs.declared.add_device.AddDeviceRead.TheVariants as add_device
-use Rattle.wire.specs.declared.message.Asked.{Asked}
-use Rattle.pieces.specs.declared.piece.Piece.{Piece}
-use Rattle.pieces.specs.declared.piece.Piece.TheVariants.{Word, Run}
-use lib.ListN.{length, take, drop}
+use lib.ListN.{length, drop}
 use lib.Seq.{get_or-drop, get_or-take}
 use borrow.Author.Tests.{eqb-true, le-ltb, ltb-false}
 use Rattle.header.specs.Ids.{assignable, interface_in, mask_in}
 use Rattle.header.specs.declared.ids.MessageId.{MessageId}
-use Rattle.answers.specs.declared.kind.Kind.TheVariants as kind
 use Rattle.wire.specs.Message.{asked_of, asks_by}
 use Rattle.wire.specs.Reading.{add_device_reading, reading_of}
-use Rattle.pieces.specs.Pieces.{cut, encode, total_from}
+use Rattle.pieces.specs.Pieces.{cut, total_from}
 use Rattle.pieces.specs.declared.piece.Total.TheVariants as total
 use Rattle.writer.specs.AddDevice.{add_device_given, list_fits, text_fits, text_given, unit_before}
 use Rattle.writer.specs.Part.{part_allowed}
@@ -49,9 +38,8 @@ use Rattle.writer_laws.specs.Layout.{Bytes}
 use Rattle.writer_laws.specs.Rebuilt.{asks_some}
 use Rattle.writer_laws.specs.ReadBack.{Wide32, numbers_of, parts_of}
 use Rattle.writer_laws.proofs.Places.{places}
-use Rattle.writer_laws.proofs.Rebuilt.{both, refused}
 use Rattle.writer_laws.proofs.RebuiltDevice.{split, text_at, text_same}
-use Rattle.writer_laws.proofs.Back.{Back, ended_there, field_there, long_of, message_back, reach, same, some, within}
+use Rattle.writer_laws.proofs.Back.{Back, ended_there, field_there, long_of, message_back, same, some, within}
 
 -- a text whose count and units are there
 text_there : (m : List ℕ) (at : ℕ) → at + 4 + 2 * word_at m at ≤ length m → text_of m at ≡ text.Fits (text_at m at) (at + 4 + 2 * word_at m at)

@@ -1,43 +1,26 @@
 -- What is written of a transfer request is read back as the same fields.
-use Prim.Native.Nat.{ℕ, zero, suc, ◌+◌, ◌-◌, ◌*◌, ◌/◌, ◌%◌, ◌<◌, ◌≤◌}
+use Prim.Native.Nat.{ℕ, suc, ◌+◌, ◌-◌, ◌*◌, ◌/◌, ◌%◌, ◌<◌, ◌≤◌}
 use native.Mathlib.Omega.{arith}
 use mathlib.Core.Path.{◌≡◌, refl, ap, sym, subst, ◌∙◌}
-use mathlib.Core.Logic.{◌⊎◌, inl, inr}
 use mathlib.Core.List.{List, [], ◌∷◌, ◌++◌}
-use mathlib.Core.Bool.{Bool, true, false, cond, not, ◌&&◌, ◌||◌}
-use lib.ListN.{length, take, drop, get_or}
-use lib.Dec.{ltb, leb, eqb}
-use Rattle.words.specs.Words.{byte_at, half_at, word_at}
-use Rattle.words.specs.Layout.{agrees, field, left}
+use mathlib.Core.Bool.{Bool, true, false, cond, not, ◌&&◌}
+use lib.ListN.{length, take, get_or}
+use lib.Dec.{ltb, eqb}
+use Rattle.words.specs.Words.{half_at, word_at}
+use Rattle.words.specs.Layout.{left}
 use Rattle.words.specs.declared.layout.Part.{Part}
 use Rattle.urb.specs.Interfaces.{interfaces_of}
-use Rattle.urb.specs.SelectConfiguration.{configuration_from, configuration_of, configuration_with, descriptor_of, select_configuration_of}
-use Rattle.urb.specs.SelectInterface.{interface_from, select_interface_of}
-use Rattle.urb.specs.IsochTransfer.{isoch_transfer_of}
-use Rattle.urb.specs.TsUrb.{one_size_of, one_sizes, row_of, structure_of}
-use Rattle.urb.specs.declared.interfaces.Walk.{Walk}
-use Rattle.urb.specs.declared.interfaces.Walk.TheVariants as walk
-use Rattle.urb.specs.declared.select_configuration.Descriptor.{Descriptor}
-use Rattle.urb.specs.declared.select_configuration.DescriptorRead.{DescriptorRead}
-use Rattle.urb.specs.declared.select_configuration.DescriptorRead.TheVariants as descriptor
+use Rattle.urb.specs.TsUrb.{structure_of}
 use Rattle.urb.specs.declared.ts_urb.Urb.{Urb}
 use Rattle.urb.specs.declared.ts_urb.Urb.TheVariants as urb
-use Rattle.urb.specs.declared.ts_urb.StructureRead.{StructureRead}
-use Rattle.urb.specs.declared.ts_urb.StructureRead.TheVariants as read
 use Rattle.urb_values.specs.Values.{may_no_ack, only_in, urb_allowed}
 use Rattle.writer.specs.Part.{part_allowed}
 use Rattle.writer.specs.declared.ts_urb.Stated.{Stated}
 use Rattle.writer.specs.declared.ts_urb.Stated.TheVariants.{Is}
 use Rattle.writer.specs.declared.ts_urb.Listed.TheVariants as listed
 use Rattle.fields.specs.Transfer.{structure_in}
-use Rattle.urb.specs.declared.control_transfer.ControlTransfer.{ControlTransfer}
-use Rattle.urb.specs.declared.pipe_request.PipeRequest.{PipeRequest}
-use Rattle.urb.specs.declared.bulk_or_interrupt_transfer.BulkOrInterruptTransfer.{BulkOrInterruptTransfer}
 use Rattle.pieces.specs.Pieces as pieces
 use Rattle.pieces.specs.declared.piece.Piece.{Piece}
-use Rattle.writer.specs.declared.ts_urb.SelectConfigurationFields.{SelectConfigurationFields}
-use Rattle.writer.specs.declared.ts_urb.SelectInterfaceFields.{SelectInterfaceFields}
-use Rattle.writer.specs.declared.ts_urb.IsochTransferFields.{IsochTransferFields}
 use Rattle.writer.specs.declared.ts_urb.Structure.{Structure}
 use Rattle.writer.specs.declared.ts_urb.Structure.TheVariants as structure
 use Rattle.writer.specs.declared.ts_urb.Stated.TheVariants as stated
@@ -45,11 +28,10 @@ use Rattle.writer.specs.declared.ts_urb.Listed.{Listed}
 use Rattle.writer.proofs.Lies.{lies}
 use lib.Seq.{length-take-le}
 use borrow.Author.Tests.{eq-eqb, eqb-true, le-leb, lt-leb, ltb-true}
-use Rattle.header.specs.Ids.{interface_in, no_ack_in, urb_request_in}
+use Rattle.header.specs.Ids.{no_ack_in, urb_request_in}
 use Rattle.header.specs.declared.ids.MessageId.{MessageId}
 use Rattle.header.specs.declared.ids.RequestId.{RequestId}
 use Rattle.urb.specs.TsUrb.{ts_urb_of, urb_with}
-use Rattle.urb.specs.declared.ts_urb.TsUrb.{TsUrb}
 use Rattle.urb.specs.declared.ts_urb.TsUrbRead.TheVariants as ts
 use Rattle.wire.specs.Transfer.{output_of, transfer_from, transfer_of, transfer_with}
 use Rattle.wire.specs.TransferInRequest.{incoming_from, transfer_in_request_allowed, transfer_in_request_of}
@@ -65,8 +47,8 @@ use Rattle.wire.specs.Reading.{reading_of, transfer_in_request_reading, transfer
 use Rattle.pieces.specs.declared.piece.Piece.TheVariants.{Word, Run}
 use Rattle.pieces.specs.declared.piece.Total.TheVariants as total
 use Rattle.writer.specs.SharedMsgHeader.{interface_allowed}
-use Rattle.writer.specs.TsUrb.{configuration_by, configuration_stated, control_stated, descriptor_sized, interface_by, interface_stated, isoch_stated, listed_by, listed_of, stated_of, structure_pieces, structure_size}
-use Rattle.writer.specs.Transfer.{incoming_allowed, incoming_by, outgoing_allowed, outgoing_by, request_allowed, request_word, transfer_in_given, transfer_out_given, transfer_pieces}
+use Rattle.writer.specs.TsUrb.{configuration_by, configuration_stated, descriptor_sized, interface_by, interface_stated, listed_of, stated_of, structure_pieces, structure_size}
+use Rattle.writer.specs.Transfer.{incoming_allowed, incoming_by, outgoing_allowed, outgoing_by, request_allowed, request_word, transfer_in_given, transfer_out_given}
 use Rattle.writer.specs.Message.{bytes_of, pieces_of}
 use Rattle.writer.specs.declared.ts_urb.TsUrbFields.{TsUrbFields}
 use Rattle.writer.specs.declared.transfer.TransferInFields.{TransferInFields}
@@ -82,8 +64,8 @@ use Rattle.writer_laws.proofs.Places.{encode_is_bytes, fits-length, places}
 use Rattle.writer_laws.proofs.Rebuilt.{both, refused}
 use Rattle.writer_laws.proofs.RebuiltDevice.{split}
 use Rattle.writer_laws.proofs.Walks.{along, half-take, word-take}
-use Rattle.writer_laws.proofs.Back.{Back, agrees_there, at_least_there, below_30, ended_there, field_there, filled_there, first_below, half_same, interface_back, long_of, message_back, part_small, same, some}
-use Rattle.writer_laws.proofs.BackUrb.{StructureBack, fills, held, nothing, structure_back, unmet}
+use Rattle.writer_laws.proofs.Back.{Back, agrees_there, at_least_there, below_30, ended_there, field_there, filled_there, first_below, interface_back, long_of, message_back, part_small, same, some}
+use Rattle.writer_laws.proofs.BackUrb.{fills, held, nothing, structure_back, unmet}
 
 -- an interface list that fills its part is whole rows
 list_rows : (s : List ℕ) (p : Part) (count pipes : ℕ) → listed_of s p count ≡ listed.Pipes pipes → part_allowed s p ≡ true → (r : ℕ) × (p.size ≡ 12 * r)

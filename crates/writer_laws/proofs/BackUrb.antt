@@ -1,28 +1,26 @@
 -- The structure of a TsUrb that is written is read back as the same fields.
-use Prim.Native.Nat.{ℕ, zero, suc, ◌+◌, ◌-◌, ◌*◌, ◌/◌, ◌%◌, ◌<◌, ◌≤◌}
+use Prim.Native.Nat.{ℕ, ◌+◌, ◌-◌, ◌*◌, ◌/◌, ◌%◌, ◌<◌, ◌≤◌}
 use native.Mathlib.Omega.{arith}
 use mathlib.Core.Path.{◌≡◌, refl, ap, sym, subst, ◌∙◌}
 use mathlib.Core.Logic.{◌⊎◌, inl, inr}
-use mathlib.Core.List.{List, [], ◌∷◌, ◌++◌}
+use mathlib.Core.List.{List, ◌++◌}
 use mathlib.Core.Bool.{Bool, true, false, cond, ◌&&◌, ◌||◌}
 use lib.ListN.{length, take, drop, get_or}
 use lib.Dec.{ltb, leb, eqb}
-use Rattle.words.specs.Words.{byte_at, half_at, word_at}
+use Rattle.words.specs.Words.{byte_at, word_at}
 use Rattle.words.specs.Layout.{agrees, field, left}
 use Rattle.words.specs.declared.layout.Part.{Part}
 use Rattle.urb.specs.Interfaces.{interfaces_of}
 use Rattle.urb.specs.SelectConfiguration.{configuration_from, configuration_of, configuration_with, descriptor_of, select_configuration_of}
 use Rattle.urb.specs.SelectInterface.{interface_from, select_interface_of}
 use Rattle.urb.specs.IsochTransfer.{isoch_transfer_of}
-use Rattle.urb.specs.TsUrb.{one_size_of, one_sizes, row_of, structure_of}
+use Rattle.urb.specs.TsUrb.{one_size_of, structure_of}
 use Rattle.urb.specs.declared.interfaces.Walk.{Walk}
 use Rattle.urb.specs.declared.interfaces.Walk.TheVariants as walk
 use Rattle.urb.specs.declared.select_configuration.Descriptor.{Descriptor}
-use Rattle.urb.specs.declared.select_configuration.DescriptorRead.{DescriptorRead}
 use Rattle.urb.specs.declared.select_configuration.DescriptorRead.TheVariants as descriptor
 use Rattle.urb.specs.declared.ts_urb.Urb.{Urb}
 use Rattle.urb.specs.declared.ts_urb.Urb.TheVariants as urb
-use Rattle.urb.specs.declared.ts_urb.StructureRead.{StructureRead}
 use Rattle.urb.specs.declared.ts_urb.StructureRead.TheVariants as read
 use Rattle.urb_values.specs.Values.{may_no_ack, only_in, urb_allowed}
 use Rattle.writer.specs.Part.{part_allowed}
@@ -32,7 +30,7 @@ use Rattle.writer.specs.declared.ts_urb.Stated.TheVariants.{Is}
 use Rattle.writer.specs.declared.ts_urb.Listed.TheVariants as listed
 use Rattle.fields.specs.Transfer.{structure_in}
 use lib.Seq.{get_or-drop, get_or-take, length-take-le}
-use borrow.Author.Tests.{eq-eqb, eqb-true, leb-true, le-ltb, ltb-false}
+use borrow.Author.Tests.{eq-eqb, eqb-true, leb-true, ltb-false}
 use Rattle.urb.specs.declared.control_transfer.ControlTransfer.{ControlTransfer}
 use Rattle.urb.specs.declared.pipe_request.PipeRequest.{PipeRequest}
 use Rattle.urb.specs.declared.bulk_or_interrupt_transfer.BulkOrInterruptTransfer.{BulkOrInterruptTransfer}

@@ -1,20 +1,16 @@
 -- What is cut out of a message by a layout and written again is the message with its padding 0.
 use Prim.Native.Nat.{ℕ, zero, suc, ◌+◌, ◌-◌, ◌*◌, ◌/◌, ◌%◌, ◌<◌, ◌≤◌}
 use native.Mathlib.Omega.{arith}
-use native.Mathlib.Nat.{div-div-eq-div-mul}
 use mathlib.Core.Path.{◌≡◌, refl, ap, sym, subst, ◌∙◌}
-use mathlib.Core.List.{List, [], ◌∷◌, ◌++◌, append_assoc, append-nil}
+use mathlib.Core.List.{List, [], ◌∷◌, ◌++◌, append_assoc}
 use mathlib.Core.Bool.{Bool, true, false, cond}
-use lib.ListN.{length, take, drop, get_or, length-append}
+use lib.ListN.{length, drop}
 use lib.Seq.{drop-cons, drop-drop, take-add}
-use lib.Dec.{ltb, leb, eqb}
-use borrow.Author.Tests.{le-ltb, le-leb, lt-leb, lt-ltb}
+use lib.Dec.{eqb}
+use borrow.Author.Tests.{le-ltb, le-leb}
 use Rattle.words.specs.Words.{byte_at, half_at, word_at}
 use Rattle.words.specs.Written.{word_bytes}
-use Rattle.words.specs.declared.layout.Part.{Part}
-use Rattle.pieces.specs.Pieces.{bytes_of, cut, encode, rows_from, lies_in, piece_lies, row_bytes, row_of, size_of, total_from}
-use Rattle.pieces.specs.declared.piece.Piece.{Piece}
-use Rattle.pieces.specs.declared.piece.Piece.TheVariants.{Nothing, Word, Run, Interfaces}
+use Rattle.pieces.specs.Pieces.{bytes_of, encode, rows_from, lies_in, piece_lies, row_bytes, row_of, size_of, total_from}
 use Rattle.pieces.specs.declared.piece.Row.{Row}
 use Rattle.pieces.specs.declared.piece.Total.TheVariants as total
 use Rattle.writer_laws.specs.Layout.{Bytes, Field, Kept, none, empty, word, half, byte, run, interfaces, bytes_from, cleared_at, cleared_from, cleared_row, cleared_rows, cut_at, cuts_from, span_of, spans_of}

@@ -1,21 +1,16 @@
 -- The fields that are found at their places are those that the reader finds.
 use Prim.Native.Nat.{ℕ, ◌+◌, ◌*◌, ◌/◌, ◌%◌, ◌≤◌}
 use native.Mathlib.Omega.{arith}
-use mathlib.Core.Path.{◌≡◌, refl, ap, subst}
+use mathlib.Core.Path.{◌≡◌, refl, ap}
 use mathlib.Core.List.{List, [], ◌∷◌}
-use mathlib.Core.Bool.{Bool, true, false, cond}
 use lib.ListN.{length, take}
 use lib.Dec.{eqb, ltb}
 use Rattle.words.specs.Words.{half_at, word_at}
 use Rattle.words.specs.Layout.{left}
-use Rattle.words.specs.declared.layout.Fault.{Fault}
 use Rattle.words.proofs.Steps.{agrees_by, at_least_by, by_test, either, ended_by, field_by, filled_by}
 use Rattle.header.specs.Ids.{interface_in}
 use Rattle.answers.specs.declared.kind.Kind.{Kind}
 use Rattle.answers.specs.declared.kind.Kind.TheVariants as kind
-use Rattle.texts.specs.Text.{text_of, units_of}
-use Rattle.texts.specs.declared.text.TextRead.{TextRead}
-use Rattle.texts.specs.declared.text.TextRead.TheVariants as text
 use Rattle.device.specs.DeviceCapabilities.{capabilities_of}
 use Rattle.device.specs.declared.device_capabilities.CapabilitiesRead.TheVariants as capabilities
 use Rattle.urb.specs.TsUrb.{ts_urb_of}
@@ -27,7 +22,7 @@ use Rattle.wire.specs.CapabilityRequest.{capability_request_of}
 use Rattle.wire.specs.CapabilityResponse.{capability_response_of}
 use Rattle.wire.specs.ChannelCreated.{channel_created_of}
 use Rattle.wire.specs.AddVirtualChannel.{add_virtual_channel_of}
-use Rattle.wire.specs.AddDevice.{add_device_of, classes_from, device_of, device_with, names_from, pair_from, pair_of, pair_with}
+use Rattle.wire.specs.AddDevice.{add_device_of, classes_from, device_of, device_with, names_from}
 use Rattle.wire.specs.CancelRequest.{cancel_request_of}
 use Rattle.wire.specs.RegisterRequestCallback.{register_request_callback_of}
 use Rattle.wire.specs.IoControl.{io_control_of, io_control_with}
@@ -39,13 +34,11 @@ use Rattle.wire.specs.IoControlCompletion.{io_control_completion_of, io_control_
 use Rattle.wire.specs.TsUrbResult.{completed_of, completion_of, completion_with}
 use Rattle.wire.specs.UrbCompletion.{urb_completion_of, with_output_from, with_output_of}
 use Rattle.wire.specs.UrbCompletionNoData.{no_data_from, urb_completion_no_data_of}
-use Rattle.wire.specs.Reading.{Body, Fails, Fits, Reading, reading_of, capability_request_reading, capability_response_reading, channel_created_reading, add_virtual_channel_reading, add_device_reading, cancel_request_reading, register_request_callback_reading, io_control_reading, transfer_in_request_reading, transfer_out_request_reading, retract_device_reading, io_control_completion_reading, urb_completion_reading, urb_completion_no_data_reading}
+use Rattle.wire.specs.Reading.{Fails, Fits, Reading, reading_of, capability_request_reading, capability_response_reading, channel_created_reading, add_virtual_channel_reading, add_device_reading, cancel_request_reading, register_request_callback_reading, io_control_reading, transfer_in_request_reading, transfer_out_request_reading, retract_device_reading, io_control_completion_reading, urb_completion_reading, urb_completion_no_data_reading}
 use Rattle.wire.specs.declared.capability_request.CapabilityRequestRead.TheVariants as capability_request
 use Rattle.wire.specs.declared.capability_response.CapabilityResponseRead.TheVariants as capability_response
 use Rattle.wire.specs.declared.channel_created.ChannelCreatedRead.TheVariants as channel_created
 use Rattle.wire.specs.declared.add_virtual_channel.AddVirtualChannelRead.TheVariants as add_virtual_channel
-use Rattle.wire.specs.declared.add_device.PairRead.{PairRead}
-use Rattle.wire.specs.declared.add_device.PairRead.TheVariants as pair
 use Rattle.wire.specs.declared.add_device.AddDeviceRead.TheVariants as add_device
 use Rattle.wire.specs.declared.cancel_request.CancelRequestRead.TheVariants as cancel_request
 use Rattle.wire.specs.declared.register_request_callback.RegisterRequestCallbackRead.TheVariants as register_request_callback

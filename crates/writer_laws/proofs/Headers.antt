@@ -1,21 +1,18 @@
 -- The kind that a message is found to have tells its header.
-use Prim.Native.Nat.{ℕ, ◌+◌, ◌*◌, ◌/◌, ◌%◌, ◌<◌, ◌≤◌}
+use Prim.Native.Nat.{ℕ, ◌+◌, ◌*◌, ◌/◌, ◌%◌, ◌<◌}
 use native.Mathlib.Omega.{arith}
 use mathlib.Core.Path.{◌≡◌, refl, sym, subst, ◌∙◌}
 use mathlib.Core.List.{List, [], ◌∷◌}
 use mathlib.Core.Bool.{Bool, true, false, cond, ◌&&◌}
-use lib.ListN.{length}
-use lib.Dec.{eqb, leb, ltb}
+use lib.Dec.{eqb, leb}
 use borrow.Author.Tests.{eqb-true, lt-ltb}
 use Rattle.words.specs.Words.{word_at}
-use Rattle.header.specs.Ids.{assignable, interface_in, mask_in, message_in}
-use Rattle.header.specs.declared.ids.InterfaceId.{InterfaceId}
+use Rattle.header.specs.Ids.{interface_in, mask_in}
 use Rattle.header.specs.declared.ids.Known.{Known}
 use Rattle.header.specs.declared.ids.Known.TheVariants as known
 use Rattle.answers.specs.declared.kind.Kind.{Kind}
 use Rattle.answers.specs.declared.kind.Kind.TheVariants as kind
 use Rattle.kinds.specs.Kinds.{Row, calls_at, calls_known, client, first_fitting, fits, goes_to, kinds, server}
-use Rattle.kinds.specs.declared.kind.KindFound.{KindFound}
 use Rattle.kinds.specs.declared.kind.KindFound.TheVariants as found
 use Rattle.wire_laws.specs.Assigned.{Given}
 use Rattle.writer.specs.SharedMsgHeader.{interface_allowed}

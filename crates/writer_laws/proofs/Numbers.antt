@@ -3,21 +3,21 @@ use Prim.Native.Nat.{ℕ, zero, suc, ◌+◌, ◌-◌, ◌*◌, ◌/◌, ◌%◌
 use native.Mathlib.Omega.{arith}
 use mathlib.Core.Path.{◌≡◌, refl, ap, sym, subst, ◌∙◌}
 use mathlib.Core.List.{List, [], ◌∷◌, ◌++◌, append_assoc}
-use mathlib.Core.Bool.{Bool, true, false, cond, ◌&&◌}
+use mathlib.Core.Bool.{true, ◌&&◌}
 use lib.ListN.{drop, get_or, length, length-append, length-drop}
 use lib.Seq.{get_or-drop}
-use lib.Dec.{eqb, leb, ltb}
+use lib.Dec.{eqb, leb}
 use borrow.Author.Tests.{eq-eqb, eqb-true, le-ltb, leb-true}
-use Rattle.words.specs.Words.{byte_at, half_at, word_at}
+use Rattle.words.specs.Words.{byte_at, half_at}
 use Rattle.words.specs.Layout.{left}
 use Rattle.words.specs.Written.{word_bytes}
-use Rattle.urb.specs.Interfaces.{interfaces_of, larger, length_agrees, pipes_of}
+use Rattle.urb.specs.Interfaces.{interfaces_of, larger}
 use Rattle.urb.specs.declared.interfaces.Walk.TheVariants.{End}
 use Rattle.urb.proofs.Walk.{pipes_closed}
 use Rattle.pieces.specs.Interface.{interface_bytes, narrow_from, numbers_allowed, numbers_bytes}
 use Rattle.pieces.proofs.Numbers.{interface_length}
 use Rattle.writer_laws.specs.Places.{WordStands}
-use Rattle.writer_laws.specs.Numbers.{InterfaceSays, PipeSays}
+use Rattle.writer_laws.specs.Numbers.{InterfaceSays}
 use Rattle.writer_laws.proofs.Places.{word_behind}
 use Rattle.writer_laws.proofs.RebuiltDevice.{split}
 

@@ -1,5 +1,5 @@
 -- The pieces of a message stand where its layout has them.
-use Prim.Native.Nat.{ℕ, zero, suc, ◌+◌, ◌-◌, ◌*◌, ◌/◌, ◌%◌, ◌<◌, ◌≤◌}
+use Prim.Native.Nat.{ℕ, zero, suc, ◌+◌, ◌*◌, ◌/◌, ◌%◌, ◌<◌, ◌≤◌}
 use native.Mathlib.Omega.{arith}
 use native.Mathlib.Nat.{div-div-eq-div-mul}
 use mathlib.Core.Path.{◌≡◌, refl, ap, sym, subst, ◌∙◌}
@@ -7,7 +7,7 @@ use mathlib.Core.List.{List, [], ◌∷◌, ◌++◌, append_assoc, append-nil}
 use mathlib.Core.Bool.{Bool, true, false, cond}
 use lib.ListN.{length, take, drop, get_or, length-append}
 use lib.Seq.{take-append_seam, drop-append_seam, get_or-append-add, get_or-drop}
-use lib.Dec.{eqb, ltb, leb}
+use lib.Dec.{eqb}
 use Rattle.words.specs.Words.{byte_at, half_at, word_at}
 use Rattle.words.specs.Written.{word_bytes}
 use Rattle.words.specs.declared.layout.Part.{Part}

@@ -2,21 +2,17 @@
 use Prim.Native.Nat.{ℕ, ◌+◌, ◌*◌, ◌/◌, ◌%◌, ◌<◌, ◌≤◌}
 use native.Mathlib.Omega.{arith}
 use mathlib.Core.Path.{◌≡◌, refl, ap, sym, subst, ◌∙◌}
-use mathlib.Core.Logic.{◌≢◌}
 use mathlib.Core.List.{List}
 use mathlib.Core.Bool.{Bool, true, false, cond, not, ◌&&◌}
 use lib.ListN.{length}
 use lib.Dec.{eqb, leb, ltb}
-use borrow.Author.Tests.{eq-eqb, leb-true, ltb-true, ne_eqb}
+use borrow.Author.Tests.{eq-eqb, leb-true, ne_eqb}
 use Rattle.words.specs.Words.{word_at}
-use Rattle.header.specs.Ids.{interface_in, mask_in, message_in}
-use Rattle.header.specs.declared.ids.InterfaceId.{InterfaceId}
+use Rattle.header.specs.Ids.{message_in}
 use Rattle.header.specs.declared.ids.MessageId.{MessageId}
 use Rattle.header.specs.declared.ids.Known.{Known}
 use Rattle.header.specs.declared.ids.Known.TheVariants as known
 use Rattle.header.specs.declared.shared_msg_header.Header.{Header}
-use Rattle.answers.specs.Phase.{phases_of}
-use Rattle.answers.specs.declared.kind.Kind.{Kind}
 use Rattle.answers.specs.declared.kind.Kind.TheVariants as kind
 use Rattle.wire.specs.Message.{asked_of, asks_by}
 use Rattle.wire.specs.Reading.{Fails, Fits, Reading, reading_of}
@@ -33,13 +29,9 @@ use Rattle.wire.specs.RegisterRequestCallback.{register_request_callback_of}
 use Rattle.wire.specs.TransferInRequest.{transfer_in_request_of}
 use Rattle.wire.specs.UrbCompletion.{urb_completion_of}
 use Rattle.wire.specs.UrbCompletionNoData.{urb_completion_no_data_of}
-use Rattle.wire.specs.declared.message.Asked.{Asked}
-use Rattle.wire.specs.declared.message.Asked.TheVariants as asks
 use Rattle.kinds.specs.Kinds.{calls_known, client, first_fitting, kinds, server}
 use Rattle.kinds.specs.declared.kind.KindFound.TheVariants as found
 use Rattle.channel.specs.declared.channel.Channel.{Channel}
-use Rattle.turn.specs.Step.{verdict_of}
-use Rattle.table.specs.Entry.{answer_of}
 use Rattle.table.specs.Table.{channel_of, judge_of}
 use Rattle.table.specs.declared.table.Table.{Table}
 use Rattle.places.specs.Place.{no_place, used_up}
@@ -63,7 +55,7 @@ use Rattle.writer.specs.declared.message.Fields.TheVariants as fields
 use Rattle.writer_laws.specs.Layout.{Bytes}
 use Rattle.writer_laws.specs.Rebuilt.{asks_some}
 use Rattle.writer_laws.specs.Passed.{HasKind, Passes, head_in}
-use Rattle.writer_laws.specs.ReadBack.{Allows, Goes, Knows, ReadBack, Wide32, kind_of, side_of}
+use Rattle.writer_laws.specs.ReadBack.{Allows, Goes, ReadBack, Wide32, kind_of, side_of}
 use Rattle.writer_laws.proofs.Places.{fits-length}
 use Rattle.writer_laws.proofs.Rebuilt.{Headed, refused}
 use Rattle.writer_laws.proofs.RebuiltDevice.{split}

@@ -1,59 +1,44 @@
 -- A message that asks something is rebuilt from its fields, kind by kind: the layout is that of its reader.
-use Prim.Native.Nat.{ℕ, zero, suc, ◌+◌, ◌-◌, ◌*◌, ◌/◌, ◌%◌, ◌<◌, ◌≤◌}
+use Prim.Native.Nat.{ℕ, ◌+◌, ◌-◌, ◌*◌, ◌≤◌}
 use native.Mathlib.Omega.{arith}
 use mathlib.Core.Path.{◌≡◌, refl, ap, sym, subst, ◌∙◌}
 use mathlib.Core.List.{List, [], ◌∷◌, ◌++◌}
 use mathlib.Core.Bool.{Bool, true, false, cond, ◌&&◌}
-use lib.ListN.{length, take, drop}
-use lib.Dec.{ltb, leb, eqb}
-use borrow.Author.Tests.{le-ltb, le-leb, lt-leb, lt-ltb}
-use Rattle.words.specs.Words.{byte_at, half_at, word_at}
-use Rattle.words.specs.Layout.{left}
+use lib.ListN.{length}
+use lib.Dec.{eqb}
+use borrow.Author.Tests.{le-ltb, le-leb}
+use Rattle.words.specs.Words.{half_at, word_at}
 use Rattle.words.specs.declared.layout.Part.{Part}
-use Rattle.words.specs.declared.layout.Fault.{Fault}
-use Rattle.words.proofs.Steps.{either, field_by, agrees_by, at_least_by, ended_by, filled_by}
+use Rattle.words.proofs.Steps.{either, field_by, agrees_by, at_least_by, ended_by}
 use Rattle.header.specs.Ids.{assignable, interface_in, message_in}
 use Rattle.header.specs.declared.ids.Known.TheVariants as known
-use Rattle.header.specs.declared.ids.MessageId.{MessageId}
 use Rattle.answers.specs.declared.kind.Kind.{Kind}
 use Rattle.answers.specs.declared.kind.Kind.TheVariants as kind
-use Rattle.wire.specs.CapabilityRequest.{capability_request_of, capability_request_allowed}
-use Rattle.wire.specs.CapabilityResponse.{capability_response_of, capability_response_allowed}
-use Rattle.wire.specs.ChannelCreated.{channel_created_of, channel_created_allowed}
+use Rattle.wire.specs.CapabilityRequest.{capability_request_of}
+use Rattle.wire.specs.CapabilityResponse.{capability_response_of}
+use Rattle.wire.specs.ChannelCreated.{channel_created_of}
 use Rattle.wire.specs.AddVirtualChannel.{add_virtual_channel_of}
 use Rattle.wire.specs.CancelRequest.{cancel_request_of}
-use Rattle.wire.specs.RegisterRequestCallback.{register_request_callback_of, register_request_callback_allowed}
+use Rattle.wire.specs.RegisterRequestCallback.{register_request_callback_of}
 use Rattle.wire.specs.IoControl.{io_control_of, io_control_with}
-use Rattle.wire.specs.RetractDevice.{retract_device_of, retract_device_allowed}
+use Rattle.wire.specs.RetractDevice.{retract_device_of}
 use Rattle.wire.specs.IoControlCompletion.{io_control_completion_with, io_control_completion_of}
 use Rattle.wire.specs.TsUrbResult.{completed_of, completion_with, completion_of}
-use Rattle.wire.specs.UrbCompletion.{with_output_of, with_output_from, urb_completion_of, urb_completion_allowed}
+use Rattle.wire.specs.UrbCompletion.{with_output_of, with_output_from, urb_completion_of}
 use Rattle.wire.specs.UrbCompletionNoData.{no_data_from, urb_completion_no_data_of}
-use Rattle.wire.specs.Message.{asks_by, asks_with, empty_part}
+use Rattle.wire.specs.Message.{asks_by, empty_part}
 use Rattle.wire.specs.Reading.{capability_request_reading, capability_response_reading, channel_created_reading, add_virtual_channel_reading, cancel_request_reading, register_request_callback_reading, io_control_reading, retract_device_reading, io_control_completion_reading, urb_completion_reading, urb_completion_no_data_reading}
-use Rattle.wire.specs.declared.capability_request.CapabilityRequestRead.{CapabilityRequestRead}
 use Rattle.wire.specs.declared.capability_request.CapabilityRequestRead.TheVariants as capability_request
-use Rattle.wire.specs.declared.capability_response.CapabilityResponseRead.{CapabilityResponseRead}
 use Rattle.wire.specs.declared.capability_response.CapabilityResponseRead.TheVariants as capability_response
-use Rattle.wire.specs.declared.channel_created.ChannelCreatedRead.{ChannelCreatedRead}
 use Rattle.wire.specs.declared.channel_created.ChannelCreatedRead.TheVariants as channel_created
-use Rattle.wire.specs.declared.add_virtual_channel.AddVirtualChannelRead.{AddVirtualChannelRead}
 use Rattle.wire.specs.declared.add_virtual_channel.AddVirtualChannelRead.TheVariants as add_virtual_channel
-use Rattle.wire.specs.declared.cancel_request.CancelRequestRead.{CancelRequestRead}
 use Rattle.wire.specs.declared.cancel_request.CancelRequestRead.TheVariants as cancel_request
-use Rattle.wire.specs.declared.register_request_callback.RegisterRequestCallbackRead.{RegisterRequestCallbackRead}
 use Rattle.wire.specs.declared.register_request_callback.RegisterRequestCallbackRead.TheVariants as register_request_callback
-use Rattle.wire.specs.declared.io_control.IoControlRead.{IoControlRead}
 use Rattle.wire.specs.declared.io_control.IoControlRead.TheVariants as io_control
-use Rattle.wire.specs.declared.retract_device.RetractDeviceRead.{RetractDeviceRead}
 use Rattle.wire.specs.declared.retract_device.RetractDeviceRead.TheVariants as retract_device
-use Rattle.wire.specs.declared.io_control_completion.IoControlCompletionRead.{IoControlCompletionRead}
 use Rattle.wire.specs.declared.io_control_completion.IoControlCompletionRead.TheVariants as io_control_completion
-use Rattle.wire.specs.declared.ts_urb_result.CompletionRead.{CompletionRead}
 use Rattle.wire.specs.declared.ts_urb_result.CompletionRead.TheVariants as completion
-use Rattle.wire.specs.declared.urb_completion.UrbCompletionRead.{UrbCompletionRead}
 use Rattle.wire.specs.declared.urb_completion.UrbCompletionRead.TheVariants as urb_completion
-use Rattle.wire.specs.declared.urb_completion_no_data.UrbCompletionNoDataRead.{UrbCompletionNoDataRead}
 use Rattle.wire.specs.declared.urb_completion_no_data.UrbCompletionNoDataRead.TheVariants as urb_completion_no_data
 use Rattle.wire.specs.declared.message.Asked.{Asked}
 use Rattle.wire.specs.declared.message.Asked.TheVariants.{Value, Callback}
@@ -64,8 +49,8 @@ use Rattle.writer.specs.Part.{part_allowed}
 use Rattle.writer.specs.Message.{given_in, pieces_of}
 use Rattle.fields.specs.Message.{fields_in}
 use Rattle.fields.specs.UrbCompletion.{no_data_in, urb_completion_in}
-use Rattle.writer_laws.specs.Layout.{Field, none, empty, word, half, byte, run, interfaces, cuts_from, spans_of}
-use Rattle.writer_laws.specs.Rebuilt.{Rebuilt, asks_some, layout_of}
+use Rattle.writer_laws.specs.Layout.{cuts_from, spans_of}
+use Rattle.writer_laws.specs.Rebuilt.{Rebuilt, asks_some}
 
 -- the header of a message: its first word is the interface and the mask, its third the function
 pub record Headed (i mask function : ℕ) (m : List ℕ) : Type 0 where

@@ -1,17 +1,16 @@
 -- ADD_DEVICE is rebuilt from its fields.
-use Prim.Native.Nat.{ℕ, zero, suc, ◌+◌, ◌-◌, ◌*◌, ◌/◌, ◌%◌, ◌<◌, ◌≤◌}
+use Prim.Native.Nat.{ℕ, zero, suc, ◌+◌, ◌-◌, ◌*◌, ◌/◌, ◌%◌, ◌≤◌}
 use native.Mathlib.Omega.{arith}
-use mathlib.Core.Path.{◌≡◌, refl, ap, sym, subst, ◌∙◌}
-use mathlib.Core.List.{List, [], ◌∷◌, ◌++◌}
+use mathlib.Core.Path.{◌≡◌, refl, ap, sym, ◌∙◌}
+use mathlib.Core.List.{List, [], ◌∷◌}
 use mathlib.Core.Bool.{Bool, true, false, cond, ◌&&◌}
 use lib.ListN.{length}
-use lib.Dec.{ltb, leb, eqb}
+use lib.Dec.{ltb, eqb}
 use borrow.Author.Tests.{le-ltb, eq-eqb, eqb-false, ltb-false, ne_eqb}
 use Rattle.words.specs.Words.{half_at, word_at}
 use Rattle.words.specs.Layout.{left}
 use Rattle.words.specs.declared.layout.Part.{Part}
 use Rattle.words.specs.declared.layout.Fault.{Fault}
-use Rattle.words.specs.declared.layout.Fault.TheVariants.{RanOut}
 use Rattle.words.proofs.Steps.{by_test, field_by, ended_by}
 use Rattle.header.specs.Ids.{assignable, interface_in, mask_in}
 use Rattle.answers.specs.declared.kind.Kind.TheVariants as kind
@@ -20,27 +19,24 @@ use Rattle.texts.specs.declared.text.Text.{Text}
 use Rattle.texts.specs.declared.text.TextRead.{TextRead}
 use Rattle.texts.specs.declared.text.TextRead.TheVariants as text
 use Rattle.device.specs.DeviceCapabilities.{capabilities_allowed, capabilities_of}
-use Rattle.device.specs.declared.device_capabilities.CapabilitiesRead.{CapabilitiesRead}
 use Rattle.device.specs.declared.device_capabilities.CapabilitiesRead.TheVariants as capabilities
 use Rattle.wire.specs.AddDevice.{add_device_allowed, add_device_of, classes_from, device_of, device_with, names_from, pair_from, pair_of, pair_with, text_pair_allowed}
-use Rattle.wire.specs.declared.add_device.TextPair.{TextPair}
 use Rattle.wire.specs.declared.add_device.PairRead.{PairRead}
 use Rattle.wire.specs.declared.add_device.PairRead.TheVariants as pair
 use Rattle.wire.specs.declared.add_device.AddDevice.{AddDevice}
-use Rattle.wire.specs.declared.add_device.AddDeviceRead.{AddDeviceRead}
 use Rattle.wire.specs.declared.add_device.AddDeviceRead.TheVariants as add_device
 use Rattle.wire.specs.Message.{asks_by}
 use Rattle.wire.specs.declared.message.Asked.{Asked}
 use Rattle.wire.specs.Reading.{add_device_reading}
 use Rattle.pieces.specs.declared.piece.Piece.{Piece}
 use Rattle.pieces.specs.declared.piece.Piece.TheVariants.{Word, Run}
-use Rattle.writer.specs.AddDevice.{add_device_given, list_fits, text_fits, text_given, unit_before}
+use Rattle.writer.specs.AddDevice.{add_device_given, text_given}
 use Rattle.writer.specs.Part.{part_allowed}
 use Rattle.writer.specs.Message.{given_in, pieces_of}
 use Rattle.fields.specs.AddDevice.{add_device_in}
 use Rattle.fields.specs.Message.{fields_in}
 use Rattle.writer_laws.specs.Layout.{cuts_from, spans_of}
-use Rattle.writer_laws.specs.Rebuilt.{Rebuilt, asks_some, fourth_text, second_text, third_text}
+use Rattle.writer_laws.specs.Rebuilt.{Rebuilt, asks_some}
 use Rattle.writer_laws.proofs.Rebuilt.{Headed, asked, both, head_cut, holds, part_in, reaches, refused}
 
 -- the text whose count stands at a place

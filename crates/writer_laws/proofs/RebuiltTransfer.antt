@@ -1,5 +1,5 @@
 -- The two transfer requests are rebuilt from their fields.
-use Prim.Native.Nat.{ℕ, zero, suc, ◌+◌, ◌-◌, ◌*◌, ◌/◌, ◌%◌, ◌<◌, ◌≤◌}
+use Prim.Native.Nat.{ℕ, ◌+◌, ◌-◌, ◌*◌, ◌%◌, ◌<◌, ◌≤◌}
 use native.Mathlib.Omega.{arith}
 use mathlib.Core.Path.{◌≡◌, refl, ap, sym, subst, ◌∙◌}
 use mathlib.Core.List.{List, [], ◌∷◌, ◌++◌}
@@ -8,12 +8,11 @@ use lib.ListN.{length, take}
 use lib.Seq.{length-take-le}
 use lib.Dec.{ltb, leb, eqb}
 use borrow.Author.Tests.{leb-false, leb-true, lt-ltb}
-use Rattle.words.specs.Words.{byte_at, half_at, word_at}
+use Rattle.words.specs.Words.{half_at, word_at}
 use Rattle.words.specs.Layout.{left}
 use Rattle.words.specs.declared.layout.Part.{Part}
-use Rattle.words.specs.declared.layout.Fault.{Fault}
 use Rattle.words.proofs.Steps.{field_by, agrees_by, at_least_by, ended_by, filled_by}
-use Rattle.header.specs.Ids.{interface_in, message_in, no_ack_in, urb_request_in}
+use Rattle.header.specs.Ids.{interface_in, no_ack_in, urb_request_in}
 use Rattle.answers.specs.declared.kind.Kind.{Kind}
 use Rattle.answers.specs.declared.kind.Kind.TheVariants as kind
 use Rattle.urb.specs.TsUrb.{structure_of, ts_urb_of, urb_with}
@@ -27,30 +26,27 @@ use Rattle.urb_values.specs.Values.{may_no_ack, only_in, urb_allowed}
 use Rattle.wire.specs.Transfer.{output_of, transfer_from, transfer_of, transfer_with}
 use Rattle.wire.specs.TransferInRequest.{incoming_from, transfer_in_request_allowed, transfer_in_request_of}
 use Rattle.wire.specs.TransferOutRequest.{outgoing_from, outgoing_of, transfer_out_request_allowed, transfer_out_request_of}
-use Rattle.wire.specs.declared.transfer.TransferRead.{TransferRead}
 use Rattle.wire.specs.declared.transfer.TransferRead.TheVariants as transfer
-use Rattle.wire.specs.declared.transfer_in_request.TransferInRequestRead.{TransferInRequestRead}
 use Rattle.wire.specs.declared.transfer_in_request.TransferInRequestRead.TheVariants as transfer_in_request
-use Rattle.wire.specs.declared.transfer_out_request.TransferOutRequestRead.{TransferOutRequestRead}
 use Rattle.wire.specs.declared.transfer_out_request.TransferOutRequestRead.TheVariants as transfer_out_request
-use Rattle.wire.specs.Message.{asks_by, empty_part}
+use Rattle.wire.specs.Message.{asks_by}
 use Rattle.wire.specs.Reading.{transfer_in_request_reading, transfer_out_request_reading}
 use Rattle.wire.specs.declared.message.Asked.{Asked}
 use Rattle.pieces.specs.declared.piece.Piece.{Piece}
-use Rattle.pieces.specs.declared.piece.Piece.TheVariants.{Word, Run}
+use Rattle.pieces.specs.declared.piece.Piece.TheVariants.{Word}
 use Rattle.writer.specs.SharedMsgHeader.{interface_allowed}
-use Rattle.writer.specs.TsUrb.{stated_of, structure_pieces, structure_size}
-use Rattle.writer.specs.Transfer.{incoming_allowed, outgoing_allowed, request_word, transfer_in_given, transfer_out_given}
+use Rattle.writer.specs.TsUrb.{structure_pieces, structure_size}
+use Rattle.writer.specs.Transfer.{request_word, transfer_in_given, transfer_out_given}
 use Rattle.writer.specs.Message.{given_in, pieces_of}
 use Rattle.fields.specs.Message.{fields_in}
-use Rattle.fields.specs.Transfer.{structure_in, transfer_in, transfer_out, urb_by}
+use Rattle.fields.specs.Transfer.{structure_in, transfer_in, transfer_out}
 use Rattle.writer_laws.specs.Layout.{Bytes, Field, word, empty, run, cut_at, cuts_from, span_of, spans_of}
-use Rattle.writer_laws.specs.Rebuilt.{Rebuilt, asks_some, structure_layout, urb_layout}
+use Rattle.writer_laws.specs.Rebuilt.{Rebuilt, asks_some, structure_layout}
 use Rattle.writer_laws.proofs.Rebuilt.{Headed, asked, both, head_cut, holds, part_in, reaches, refused}
 use Rattle.writer_laws.proofs.RebuiltDevice.{split}
 use Rattle.writer_laws.proofs.RebuiltUrb.{Built, BuiltAs, structure_built}
 use Rattle.writer_laws.proofs.Places.{word_below}
-use Rattle.writer_laws.proofs.Walks.{half-take, word-take}
+use Rattle.writer_laws.proofs.Walks.{word-take}
 
 -- a layout in two parts
 cuts_join : (m : List ℕ) (at : ℕ) (xs ys : List Field) → cuts_from m at (xs ++ ys) ≡ cuts_from m at xs ++ cuts_from m (at + spans_of xs) ys

@@ -1,22 +1,21 @@
 -- A TsUrb that a transfer has is rebuilt from its fields, structure by structure.
-use Prim.Native.Nat.{ℕ, zero, suc, ◌+◌, ◌-◌, ◌*◌, ◌/◌, ◌%◌, ◌<◌, ◌≤◌}
+use Prim.Native.Nat.{ℕ, ◌+◌, ◌-◌, ◌*◌, ◌/◌, ◌%◌, ◌<◌, ◌≤◌}
 use native.Mathlib.Omega.{arith}
 use mathlib.Core.Path.{◌≡◌, refl, ap, sym, subst, ◌∙◌}
-use mathlib.Core.List.{List, [], ◌∷◌, ◌++◌}
-use mathlib.Core.Bool.{Bool, true, false, cond, ◌&&◌, ◌||◌}
-use lib.ListN.{length, take, drop, get_or}
+use mathlib.Core.List.{List}
+use mathlib.Core.Bool.{Bool, true, false, ◌&&◌, ◌||◌}
+use lib.ListN.{length, take, drop}
 use lib.Seq.{get_or-drop, get_or-take, length-take-le}
-use lib.Dec.{ltb, leb, eqb}
-use borrow.Author.Tests.{eq-eqb, eqb-true, le-leb, le-ltb}
-use Rattle.words.specs.Words.{byte_at, half_at, word_at}
+use lib.Dec.{leb, eqb}
+use borrow.Author.Tests.{eq-eqb, le-leb, le-ltb}
+use Rattle.words.specs.Words.{byte_at, word_at}
 use Rattle.words.specs.Layout.{left}
-use Rattle.words.specs.declared.layout.Part.{Part}
 use Rattle.words.proofs.Steps.{either, field_by, agrees_by, at_least_by}
 use Rattle.urb.specs.Interfaces.{interfaces_of}
 use Rattle.urb.specs.SelectConfiguration.{configuration_from, configuration_of, configuration_with, descriptor_of, select_configuration_of}
 use Rattle.urb.specs.SelectInterface.{interface_from, select_interface_of}
 use Rattle.urb.specs.IsochTransfer.{isoch_transfer_of}
-use Rattle.urb.specs.TsUrb.{one_size_of, one_sizes, row_of, structure_of}
+use Rattle.urb.specs.TsUrb.{one_size_of, structure_of}
 use Rattle.urb.specs.declared.interfaces.Walk.{Walk}
 use Rattle.urb.specs.declared.interfaces.Walk.TheVariants as walk
 use Rattle.urb.specs.declared.select_configuration.Descriptor.{Descriptor}
@@ -28,17 +27,13 @@ use Rattle.urb.specs.declared.ts_urb.StructureRead.{StructureRead}
 use Rattle.urb.specs.declared.ts_urb.StructureRead.TheVariants as read
 use Rattle.urb.proofs.Walk.{interfaces_end}
 use Rattle.urb_values.specs.Values.{may_no_ack, only_in, urb_allowed}
-use Rattle.pieces.specs.declared.piece.Piece.{Piece}
-use Rattle.pieces.specs.declared.piece.Piece.TheVariants.{Nothing, Word, Run, Interfaces}
-use Rattle.writer.specs.Part.{part_allowed}
-use Rattle.writer.specs.TsUrb.{configuration_stated, control_stated, descriptor_sized, interface_stated, isoch_stated, listed_by, listed_of, stated_of, structure_pieces, structure_size}
-use Rattle.writer.specs.declared.ts_urb.Stated.{Stated}
+use Rattle.writer.specs.TsUrb.{configuration_stated, control_stated, descriptor_sized, interface_stated, isoch_stated, listed_of, stated_of, structure_pieces, structure_size}
 use Rattle.writer.specs.declared.ts_urb.Stated.TheVariants.{Is}
 use Rattle.writer.specs.declared.ts_urb.Listed.TheVariants as listed
 use Rattle.fields.specs.Transfer.{structure_in}
 use Rattle.writer_laws.specs.Layout.{Bytes, cuts_from, spans_of}
 use Rattle.writer_laws.specs.Rebuilt.{structure_layout}
-use Rattle.writer_laws.proofs.Rebuilt.{both, part_in, refused}
+use Rattle.writer_laws.proofs.Rebuilt.{part_in, refused}
 use Rattle.writer_laws.proofs.Walks.{along, half-take, word-take}
 
 twelve : (k : ℕ) → 12 * k / 12 ≡ k

@@ -1,27 +1,18 @@
 -- What is written for a channel that allows it passes checks 3 to 8.
-use Prim.Native.Nat.{ℕ, ◌+◌, ◌*◌, ◌/◌, ◌%◌, ◌<◌, ◌≤◌}
+use Prim.Native.Nat.{ℕ, ◌≤◌}
 use native.Mathlib.Omega.{arith}
-use mathlib.Core.Path.{◌≡◌, refl, ap, sym, subst, ◌∙◌}
-use mathlib.Core.Logic.{◌⊎◌, inl, inr}
-use mathlib.Core.List.{List, []}
-use mathlib.Core.Bool.{Bool, true, false, cond, ◌&&◌}
+use mathlib.Core.Path.{◌≡◌, refl, sym, ◌∙◌}
+use mathlib.Core.Logic.{inl, inr}
+use mathlib.Core.List.{List}
+use mathlib.Core.Bool.{Bool, true, false, cond}
 use lib.ListN.{length}
-use lib.Dec.{eqb, leb, ltb}
-use borrow.Author.Tests.{eq-eqb, le-ltb, leb-true, ne_eqb}
-use Rattle.words.specs.Words.{word_at}
+use lib.Dec.{eqb, ltb}
+use borrow.Author.Tests.{eq-eqb, le-ltb}
 use Rattle.words.proofs.Steps.{either}
 use Rattle.header.specs.Header.{header_of}
-use Rattle.header.specs.Ids.{interface_in, mask_in}
 use Rattle.header.specs.declared.ids.RequestId.{RequestId}
-use Rattle.header.specs.declared.ids.Known.{Known}
-use Rattle.header.specs.declared.ids.Known.TheVariants as known
-use Rattle.header.specs.declared.shared_msg_header.Header.{Header}
-use Rattle.header.specs.declared.shared_msg_header.HeaderRead.TheVariants as header
-use Rattle.answers.specs.Answer.{answer_number}
 use Rattle.answers.specs.Phase.{phases_of}
-use Rattle.answers.specs.declared.answer.Answer.TheVariants as answer
 use Rattle.answers.specs.declared.kind.Kind.{Kind}
-use Rattle.answers.specs.declared.kind.Kind.TheVariants as kind
 use Rattle.wire.specs.Message.{asked_of, asks_by}
 use Rattle.wire.specs.CapabilityRequest.{capability_request_allowed}
 use Rattle.wire.specs.CapabilityResponse.{capability_response_allowed}
@@ -63,7 +54,7 @@ use Rattle.wire.specs.declared.message.Asked.TheVariants as asks
 use Rattle.wire.specs.declared.message.Request.{Request}
 use Rattle.wire.specs.declared.message.IoCompleted.{IoCompleted}
 use Rattle.wire.specs.declared.message.UrbCompleted.{UrbCompleted}
-use Rattle.kinds.specs.Kinds.{calls_at, calls_known, client, first_fitting, goes_to, kinds, server}
+use Rattle.kinds.specs.Kinds.{first_fitting, kinds}
 use Rattle.kinds.specs.declared.kind.KindFound.TheVariants as found
 use Rattle.channel.specs.declared.channel.Channel.{Channel}
 use Rattle.channel.specs.declared.row.Open.{Open}
@@ -73,20 +64,18 @@ use Rattle.rows.specs.declared.search.Found.TheVariants as free
 use Rattle.requests.specs.declared.open.Held.{Held}
 use Rattle.requests.specs.declared.open.Held.TheVariants as held
 use Rattle.rules.specs.Decide.{decided}
-use Rattle.rules.specs.Request.{opened, taken}
+use Rattle.rules.specs.Request.{taken}
 use Rattle.rules.specs.Cancel.{cancelled}
-use Rattle.rules.specs.Completion.{io_closed, io_completed, no_data_completed, result_agrees, urb_closed, urb_completed}
+use Rattle.rules.specs.Completion.{io_completed, no_data_completed, result_agrees, urb_closed, urb_completed}
 use Rattle.rules.specs.declared.decide.Seen.{Seen}
 use Rattle.rules.specs.declared.verdict.Verdict.{Verdict}
-use Rattle.turn.specs.Admit.{admitted, asks_as, asks_in, from_head, from_header}
-use Rattle.turn.specs.Step.{verdict_by, verdict_of}
+use Rattle.turn.specs.Admit.{admitted, asks_in, from_header}
+use Rattle.turn.specs.Step.{verdict_of}
 use Rattle.turn.specs.Store.{seen_of}
 use Rattle.table.specs.Entry.{answer_of}
-use Rattle.writer.specs.SharedMsgHeader.{interface_allowed}
 use Rattle.writer_laws.specs.Rebuilt.{asks_some}
 use Rattle.writer_laws.specs.Passed.{Passes, head_in}
-use Rattle.writer_laws.proofs.Rebuilt.{Headed, refused}
-use Rattle.writer_laws.proofs.RebuiltDevice.{split}
+use Rattle.writer_laws.proofs.Rebuilt.{refused}
 
 abbrev PassesBy : Verdict → Type 0
 PassesBy v = Passes (answer_of v)

@@ -1,13 +1,13 @@
 -- Two interface lists whose rows are alike are walked alike, wherever they stand: the walk looks at Length and NumberOfPipes alone.
 use Prim.Native.Nat.{ℕ, zero, suc, ◌+◌, ◌-◌, ◌*◌, ◌/◌, ◌<◌, ◌≤◌}
 use native.Mathlib.Omega.{arith}
-use mathlib.Core.Path.{◌≡◌, refl, ap, sym, subst, ◌∙◌}
-use mathlib.Core.List.{List, []}
+use mathlib.Core.Path.{◌≡◌, refl, subst}
+use mathlib.Core.List.{List}
 use mathlib.Core.Bool.{Bool, true, false, cond}
-use lib.ListN.{length, take, get_or}
+use lib.ListN.{length, take}
 use lib.Seq.{get_or-take}
 use lib.Dec.{ltb}
-use borrow.Author.Tests.{ltb-false, le-ltb}
+use borrow.Author.Tests.{le-ltb}
 use Rattle.words.specs.Words.{byte_at, half_at, word_at}
 use Rattle.words.specs.Layout.{left}
 use Rattle.words.specs.declared.layout.Fault.TheVariants.{RanOut, Disagrees}

@@ -1,5 +1,5 @@
 -- The layout of a message: its fields one behind the other, with the padding that 000 has beside some of them.
-use Rattle.std.specs.Prelude.{ℕ, zero, suc, ◌+◌, ◌*◌, ◌-◌, ◌/◌, ◌<◌, List, [], ◌∷◌, ◌++◌, cond, take, drop, eqb}
+use Rattle.std.specs.Prelude.{ℕ, zero, suc, ◌+◌, ◌*◌, ◌-◌, ◌<◌, List, [], ◌∷◌, ◌++◌, cond, take, drop, eqb}
 use Rattle.words.specs.Words.{byte_at, half_at, word_at}
 use Rattle.wire.specs.Message.{empty_part}
 use Rattle.pieces.specs.declared.piece.Piece.{Piece}

@@ -3,7 +3,6 @@ use Rattle.std.specs.Prelude.{ℕ, ◌≤◌, ◌≡◌, ◌⊎◌, List, cond, 
 use Rattle.words.specs.Words.{word_at}
 use Rattle.header.specs.Ids.{interface_in, mask_in, message_in}
 use Rattle.header.specs.declared.shared_msg_header.Header.{Header}
-use Rattle.header.specs.declared.ids.Known.{Known}
 use Rattle.answers.specs.Answer.{answer_number}
 use Rattle.answers.specs.declared.answer.Answer.{Answer}
 use Rattle.answers.specs.declared.kind.Kind.{Kind}

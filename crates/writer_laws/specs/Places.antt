@@ -1,7 +1,6 @@
 -- Where the pieces of a message that was written stand in it.
 use Rattle.std.specs.Prelude.{ℕ, ◌+◌, ◌*◌, ◌/◌, ◌%◌, ◌<◌, ◌≡◌, List, [], ◌∷◌, length}
 use Rattle.words.specs.Words.{byte_at, half_at, word_at}
-use Rattle.words.specs.declared.layout.Part.{Part}
 use Rattle.pieces.specs.Pieces.{cut, rows_from, size_of}
 use Rattle.pieces.specs.declared.piece.Piece.{Piece}
 use Rattle.pieces.specs.declared.piece.Piece.TheVariants.{Nothing, Word, Run, Interfaces}

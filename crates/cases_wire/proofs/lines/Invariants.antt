@@ -9,4 +9,3 @@ invariant-loop-number l = length l.space ≡ length l.initial.space
 
 abbrev pub decreases-loop-number : goal.decreases-loop-number
 decreases-loop-number l = 1000000 - l.number
-

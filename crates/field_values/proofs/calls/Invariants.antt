@@ -9,4 +9,3 @@ invariant-loop-number l = (length l.lent ≡ length l.initial.lent) × (length l
 
 abbrev pub decreases-loop-number : goal.decreases-loop-number
 decreases-loop-number l = 0xFFFF_FFFF_FFFF_FFFF - l.number
-

@@ -1,8 +1,7 @@
 -- `fill` is safe and ends: the bytes left to fill fall, and the room keeps its length.
 use Prim.Native.Nat.{◌≤◌, ◌-◌}
 use mathlib.Core.Path.{◌≡◌}
-use lib.ListN.{length, length-set}
-use native.Mathlib.Omega.{arith}
+use lib.ListN.{length}
 use Rattle.field_values.proofs.fill.Given as goal
 
 abbrev pub invariant-loop-i : goal.invariant-loop-i
@@ -10,4 +9,3 @@ invariant-loop-i l = (l.i ≤ length l.initial.room) × (length l.room ≡ lengt
 
 abbrev pub decreases-loop-i : goal.decreases-loop-i
 decreases-loop-i l = length l.initial.room - l.i
-

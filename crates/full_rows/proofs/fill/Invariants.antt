@@ -7,4 +7,3 @@ invariant-loop-id l = l.id ≤ 16
 
 abbrev pub decreases-loop-id : goal.decreases-loop-id
 decreases-loop-id l = 16 - l.id
-

@@ -1,9 +1,7 @@
 -- `records` is safe and ends: the records that may still come fall, and what is lent keeps its length.
 use Prim.Native.Nat.{◌-◌}
-use mathlib.Core.Path.{◌≡◌, sym}
+use mathlib.Core.Path.{◌≡◌}
 use lib.ListN.{length}
-use lib.Seq.{length-take-le}
-use native.Mathlib.Omega.{arith}
 use Rattle.rebuild.proofs.records.Given as goal
 
 abbrev pub invariant-loop-turn : goal.invariant-loop-turn
@@ -11,4 +9,3 @@ invariant-loop-turn l = (length l.bytes ≡ length l.initial.bytes) × (length l
 
 abbrev pub decreases-loop-turn : goal.decreases-loop-turn
 decreases-loop-turn l = 18446744073709551615 - l.turn
-
