@@ -4,40 +4,50 @@
 
 use listing::capture;
 use listing::capture::What;
-use std::env;
+use std::env::{Env, FillError};
 use std::fs::File;
-use std::io::{Error, Read};
+use std::io::Read;
 
-fn main(rt: HostRuntime) -> Result<(), Error> {
+fn main(rt: HostRuntime) {
+    let mut space = io::buffer();
     let mut payloads = false;
-    for word in env::args(&rt)?.skip(1) {
-        payloads = of_word(&rt, word.as_str(), payloads);
+    for i in 1..usize::MAX {
+        match rt.arg(i, &mut space) {
+            Ok(size) => payloads = of_word(&rt, &space[..size], payloads),
+            Err(FillError::TooLong) => payloads = of_word(&rt, &space[..0], payloads),
+            Err(FillError::NotPresent) => return,
+        }
     }
-    Ok(())
 }
 
-// Does what a word says, and answers whether payloads are listed behind it.
-fn of_word(rt: &HostRuntime, word: &str, payloads: bool) -> bool {
-    if !word.starts_with('-') {
+// Does what a word says, and answers whether payloads are listed behind it. A word that is too long for a path is the empty one.
+fn of_word(rt: &HostRuntime, word: &[u8], payloads: bool) -> bool {
+    if word.is_empty() || word[0] != b'-' {
         of_file(rt, word, payloads);
         return payloads;
     }
-    if word == "-" {
+    if word.len() == 1 {
         of_reader(&mut rt.stdin(), payloads);
         return payloads;
     }
     true
 }
 
-fn of_file(rt: &HostRuntime, name: &str, payloads: bool) {
-    match File::open(rt, name) {
-        Ok(mut file) => of_reader(&mut file, payloads),
-        Err(_) => {
-            io::write_all(1, b"no file ");
-            io::write_all(1, name.as_bytes());
-            io::write_all(1, b"\n");
-        }
+// A file is opened by its name as text, so a name that is none names no file.
+fn of_file(rt: &HostRuntime, name: &[u8], payloads: bool) {
+    match std::str::from_utf8(name) {
+        Ok(text) => match File::open(rt, text) {
+            Ok(mut file) => of_reader(&mut file, payloads),
+            Err(_) => no_file(name),
+        },
+        Err(_) => no_file(name),
     }
+}
+
+fn no_file(name: &[u8]) {
+    io::write_all(1, b"no file ");
+    io::write_all(1, name);
+    io::write_all(1, b"\n");
 }
 
 fn of_reader<R: Read>(reader: &mut R, payloads: bool) {

@@ -37,8 +37,8 @@ fn shown(table: Table, channel: u8, side: u8, m: &[u8]) -> Part
 // The bytes of a part. A part that would reach beyond the message gives the empty part.
 #[tactic(auto, unfolding(crate::specs::Payload::cut_of, crate::specs::Payload::start_in))]
 fn cut(m: &[u8], part: Part) -> &[u8]
-    ensures result_value { result.now ≡ cut_of m.now part }
-    ensures ref_ptr_value { result.ref_ptr ≡ behind m.entry.ref_ptr (start_in m.now part) }
+    ensures bytes { result.now ≡ cut_of m.now part }
+    ensures place { result.ref_ptr ≡ behind m.entry.ref_ptr (start_in m.now part) }
 {
     if m.len() < part.start {
         return &m[0..0];
@@ -54,8 +54,8 @@ fn cut(m: &[u8], part: Part) -> &[u8]
 // The payload of a message, against the table as it was before the message was judged. It uses no number.
 #[tactic(auto, unfolding(crate::specs::Payload::payload_of, crate::specs::Payload::start_of))]
 pub fn payload(table: Table, channel: u8, side: u8, m: &[u8]) -> &[u8]
-    ensures result_value { result.now ≡ payload_of table channel side m.now }
-    ensures ref_ptr_value { result.ref_ptr ≡ behind m.entry.ref_ptr (start_of table channel side m.now) }
+    ensures bytes { result.now ≡ payload_of table channel side m.now }
+    ensures place { result.ref_ptr ≡ behind m.entry.ref_ptr (start_of table channel side m.now) }
 {
     let part = shown(table, channel, side, m);
     cut(m, part)

@@ -64,8 +64,8 @@ fn allowed(numbers: &[u32]) -> bool
 
 // The pipes' numbers are words as they are.
 fn put_pipes(numbers: &[u32], buf: &mut [u8])
-    requires in_bounds { 3 ≤ length numbers.now }
-    requires numbers_in_bounds { 4 * length numbers.now ≤ length buf.old }
+    requires whole { 3 ≤ length numbers.now }
+    requires buf_holds { 4 * length numbers.now ≤ length buf.old }
     ensures { buf.new ≡ written buf.old 12 (numbers_bytes (drop 3 numbers.now)) }
 {
     let n = numbers.len();

@@ -133,8 +133,8 @@ pub(crate) fn put_word(buf: &mut [u8], at: usize, n: usize)
 }
 
 fn put_run(lent: &[u8], part: Part, buf: &mut [u8], at: usize)
-    requires size_in_bounds { part.start + part.size ≤ length lent.now }
-    requires size_in_bounds_2 { at + part.size ≤ length buf.old }
+    requires lent_holds { part.start + part.size ≤ length lent.now }
+    requires buf_holds { at + part.size ≤ length buf.old }
     ensures { buf.new ≡ written buf.old at (cut lent.now part) }
 {
     let start = part.start;
@@ -178,8 +178,8 @@ fn put_row(row: Row, buf: &mut [u8], at: usize)
 
 // So many rows from a place of the lent bytes on.
 fn put_interfaces(lent: &[u8], start: usize, rows: usize, buf: &mut [u8], at: usize)
-    requires rows_in_bounds { start + 12 * rows ≤ length lent.now }
-    requires rows_in_bounds_2 { at + 12 * rows ≤ length buf.old }
+    requires lent_holds { start + 12 * rows ≤ length lent.now }
+    requires buf_holds { at + 12 * rows ≤ length buf.old }
     ensures { buf.new ≡ written buf.old at (rows_from lent.now rows 0 start) }
 {
     let mut pipes: u32 = 0;
@@ -194,8 +194,8 @@ fn put_interfaces(lent: &[u8], start: usize, rows: usize, buf: &mut [u8], at: us
 
 #[tactic(auto, unfolding(words::specs::Written::written))]
 fn put(p: Piece, lent: &[u8], buf: &mut [u8], at: usize)
-    requires p_value { piece_lies (length lent.now) p ≡ true }
-    requires p_in_bounds { at + size_of p ≤ length buf.old }
+    requires lies { piece_lies (length lent.now) p ≡ true }
+    requires buf_holds { at + size_of p ≤ length buf.old }
     ensures { buf.new ≡ written buf.old at (bytes_of lent.now p) }
 {
     match p {
@@ -207,8 +207,8 @@ fn put(p: Piece, lent: &[u8], buf: &mut [u8], at: usize)
 }
 
 fn put_all(pieces: [Piece; 20], lent: &[u8], buf: &mut [u8], n: usize)
-    requires pieces_value { total_from (length lent.now) 0 pieces ≡ total.Fits n }
-    requires n_in_bounds { n ≤ length buf.old }
+    requires fits { total_from (length lent.now) 0 pieces ≡ total.Fits n }
+    requires buf_holds { n ≤ length buf.old }
     ensures { buf.new ≡ encode lent.now pieces ++ drop n buf.old }
 {
     let mut at: usize = 0;

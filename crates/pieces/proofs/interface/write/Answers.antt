@@ -30,8 +30,8 @@ overflow_sub-n c = omega (arith, allowed_three _ _ refl c.if-not-allowed.ensures
 pub put_word-requires-3 : goal.put_word-requires-3
 put_word-requires-3 c = omega (arith, allowed_three _ _ refl c.if-not-allowed.ensures)
 
-pub put_pipes-requires-clause-in_bounds : goal.put_pipes-requires-clause-in_bounds
-put_pipes-requires-clause-in_bounds c = allowed_three _ _ refl c.if-not-allowed.ensures
+pub put_pipes-requires-clause-whole : goal.put_pipes-requires-clause-whole
+put_pipes-requires-clause-whole c = allowed_three _ _ refl c.if-not-allowed.ensures
 
 pub returns : goal.returns
 returns c = write_whole _ _ _ _ _ _ _ refl c.if-not-allowed.ensures c.if-buf-n.false c.put_word.ensures c.put_word-2.ensures c.put_word-3.ensures c.put_pipes.ensures

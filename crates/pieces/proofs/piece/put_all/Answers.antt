@@ -7,7 +7,7 @@ use Rattle.pieces.proofs.Pieces.{all_again, all_end, total_at}
 use Rattle.pieces.proofs.piece.put_all.Goals as goal
 
 pub put-requires : goal.put-requires
-put-requires c = let f = total_at c.args.lent.now c.args.pieces c.loop-i.at c.loop-i.i c.args.n (omega arith) c.loop-i.invariant.2 in record { p_value = f.0; p_in_bounds = omega arith }
+put-requires c = let f = total_at c.args.lent.now c.args.pieces c.loop-i.at c.loop-i.i c.args.n (omega arith) c.loop-i.invariant.2 in record { lies = f.0; buf_holds = omega arith }
 
 pub overflow_add-at : goal.overflow_add-at
 overflow_add-at c = let f = total_at c.args.lent.now c.args.pieces c.loop-i.at c.loop-i.i c.args.n (omega arith) c.loop-i.invariant.2 in omega arith
@@ -17,4 +17,4 @@ loop-i-preserved c = let r = all_again c.args.lent.now c.loop-i.buf _ _ c.args.p
     (omega arith, c.loop-i.invariant.1, r.0, r.1, ap length c.put.ensures ∙ (length-written _ _ _ ∙ c.loop-i.invariant.4))
 
 pub returns : goal.returns
-returns c = all_end c.args.lent.now c.args.buf.now c.loop-i.buf c.args.pieces c.loop-i.at c.loop-i.i c.args.n (omega arith) c.requires.pieces_value c.requires.n_in_bounds c.loop-i.invariant.3
+returns c = all_end c.args.lent.now c.args.buf.now c.loop-i.buf c.args.pieces c.loop-i.at c.loop-i.i c.args.n (omega arith) c.requires.fits c.requires.buf_holds c.loop-i.invariant.3
