@@ -2,4 +2,5 @@ pub mod Calls
 pub mod Lies
 pub mod Padded
 pub mod Messages
+pub mod Stated
 pub mod Determined
