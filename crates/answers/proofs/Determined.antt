@@ -1,9 +1,9 @@
 -- Every public function of answers asks nothing of its caller, and any two results that its contract allows are equal.
 use Rattle.words.proofs.Determined.{Determined, same}
-use Rattle.answers.proofs.answer.number.Reads as answer_number
-use Rattle.answers.proofs.answer.number.Kinds as answer_number_kinds
-use Rattle.answers.proofs.kind.number.Reads as kind_number
-use Rattle.answers.proofs.kind.number.Kinds as kind_number_kinds
+use Rattle.answers.proofs.answer.U8FromAnswer.from.Reads as answer_number
+use Rattle.answers.proofs.answer.U8FromAnswer.from.Kinds as answer_number_kinds
+use Rattle.answers.proofs.kind.U8FromKind.from.Reads as kind_number
+use Rattle.answers.proofs.kind.U8FromKind.from.Kinds as kind_number_kinds
 use Rattle.answers.proofs.phase.of.Reads as phase_of
 use Rattle.answers.proofs.phase.of.Kinds as phase_of_kinds
 

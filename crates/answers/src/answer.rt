@@ -2,46 +2,32 @@
 ghost use Rattle.std.specs.Prelude.{◌≡◌};
 ghost use Rattle.answers.specs.Answer.{answer_number};
 
-#[derive(Clone, Copy)]
+#[derive(Clone, Copy, PartialEq, Eq)]
 pub enum Answer {
-    Accepted,
+    Accepted = 0,
     // the next number is 0 or 4,294,967,295
-    NoNumber,
+    NoNumber = 1,
     // a channel above 7, or a judged message of no side
-    NoPlace,
-    Short,
-    Long,
-    NoKind,
-    WrongPhase,
-    Sizes,
-    Value,
-    AlreadyOpen,
-    Full,
-    NotOpen,
-    WrongSort,
-    TooMuch,
-    ResultDisagrees,
+    NoPlace = 2,
+    Short = 3,
+    Long = 4,
+    NoKind = 5,
+    WrongPhase = 6,
+    Sizes = 7,
+    Value = 8,
+    AlreadyOpen = 9,
+    Full = 10,
+    NotOpen = 11,
+    WrongSort = 12,
+    TooMuch = 13,
+    ResultDisagrees = 14,
 }
 
 // 01's number of an answer.
-pub fn number(answer: Answer) -> u8
-    ensures { result ≡ answer_number answer }
-{
-    match answer {
-        Answer::Accepted => 0,
-        Answer::NoNumber => 1,
-        Answer::NoPlace => 2,
-        Answer::Short => 3,
-        Answer::Long => 4,
-        Answer::NoKind => 5,
-        Answer::WrongPhase => 6,
-        Answer::Sizes => 7,
-        Answer::Value => 8,
-        Answer::AlreadyOpen => 9,
-        Answer::Full => 10,
-        Answer::NotOpen => 11,
-        Answer::WrongSort => 12,
-        Answer::TooMuch => 13,
-        Answer::ResultDisagrees => 14,
+impl From<Answer> for u8 {
+    ghost from_gives = { λ a n. n ≡ answer_number a };
+
+    fn from(answer: Answer) -> u8 {
+        answer as u8
     }
 }

@@ -2,46 +2,31 @@
 ghost use Rattle.std.specs.Prelude.{◌≡◌};
 ghost use Rattle.answers.specs.Kind.{kind_number};
 
-#[derive(Clone, Copy)]
+#[derive(Clone, Copy, PartialEq, Eq)]
 pub enum Kind {
-    CapabilityRequest,
-    CapabilityResponse,
-    ChannelCreatedByServer,
-    ChannelCreatedByClient,
-    AddVirtualChannel,
-    AddDevice,
-    CancelRequest,
-    RegisterRequestCallback,
-    IoControl,
-    InternalIoControl,
-    TransferInRequest,
-    TransferOutRequest,
-    RetractDevice,
-    IoControlCompletion,
-    UrbCompletion,
-    UrbCompletionNoData,
+    CapabilityRequest = 1,
+    CapabilityResponse = 2,
+    ChannelCreatedByServer = 3,
+    ChannelCreatedByClient = 4,
+    AddVirtualChannel = 5,
+    AddDevice = 6,
+    CancelRequest = 13,
+    RegisterRequestCallback = 7,
+    IoControl = 8,
+    InternalIoControl = 9,
+    TransferInRequest = 10,
+    TransferOutRequest = 11,
+    RetractDevice = 14,
+    IoControlCompletion = 15,
+    UrbCompletion = 16,
+    UrbCompletionNoData = 17,
 }
 
 // 01's number of a kind.
-pub fn number(kind: Kind) -> u8
-    ensures { result ≡ kind_number kind }
-{
-    match kind {
-        Kind::CapabilityRequest => 1,
-        Kind::CapabilityResponse => 2,
-        Kind::ChannelCreatedByServer => 3,
-        Kind::ChannelCreatedByClient => 4,
-        Kind::AddVirtualChannel => 5,
-        Kind::AddDevice => 6,
-        Kind::RegisterRequestCallback => 7,
-        Kind::IoControl => 8,
-        Kind::InternalIoControl => 9,
-        Kind::TransferInRequest => 10,
-        Kind::TransferOutRequest => 11,
-        Kind::CancelRequest => 13,
-        Kind::RetractDevice => 14,
-        Kind::IoControlCompletion => 15,
-        Kind::UrbCompletion => 16,
-        Kind::UrbCompletionNoData => 17,
+impl From<Kind> for u8 {
+    ghost from_gives = { λ k n. n ≡ kind_number k };
+
+    fn from(kind: Kind) -> u8 {
+        kind as u8
     }
 }

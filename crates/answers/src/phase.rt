@@ -4,6 +4,7 @@ ghost use Rattle.answers.specs.Phase.{phases_of};
 
 use crate::kind::Kind;
 
+// Numbers, as a channel's phase is one.
 #[derive(Clone, Copy)]
 pub struct Phases {
     pub before: u8,
@@ -29,15 +30,15 @@ pub fn of(kind: Kind) -> Phases
         Kind::ChannelCreatedByClient => from_to(3, 4),
         Kind::AddVirtualChannel => from_to(4, 4),
         Kind::AddDevice => from_to(4, 5),
-        Kind::CancelRequest => from_to(5, 5),
-        Kind::RegisterRequestCallback => from_to(5, 5),
-        Kind::IoControl => from_to(5, 5),
-        Kind::InternalIoControl => from_to(5, 5),
-        Kind::TransferInRequest => from_to(5, 5),
-        Kind::TransferOutRequest => from_to(5, 5),
         Kind::RetractDevice => from_to(5, 6),
-        Kind::IoControlCompletion => from_to(5, 5),
-        Kind::UrbCompletion => from_to(5, 5),
-        Kind::UrbCompletionNoData => from_to(5, 5),
+        Kind::CancelRequest
+        | Kind::RegisterRequestCallback
+        | Kind::IoControl
+        | Kind::InternalIoControl
+        | Kind::TransferInRequest
+        | Kind::TransferOutRequest
+        | Kind::IoControlCompletion
+        | Kind::UrbCompletion
+        | Kind::UrbCompletionNoData => from_to(5, 5),
     }
 }

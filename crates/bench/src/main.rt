@@ -24,7 +24,9 @@ fn main() {
     let moved = transfers::moved(asked);
     let stopped = transfers::stopped(moved);
     let retracted = presence::retracted(stopped);
+    // every entry has used one number, from 1 on
+    let entries = retracted.next.saturating_sub(1);
     io::write_all(1, b"end ");
-    io::print_decimal(1, step::entries(retracted.next));
+    io::print_decimal(1, u64::from(entries));
     io::write_all(1, b"\n");
 }

@@ -10,7 +10,7 @@ use wire::retract_device::RetractDevice;
 use words::layout::Part;
 use writer::add_device::AddDeviceFields;
 use writer::message::Fields;
-use writer::register_request_callback::{RegisterRequestCallbackFields, RequestCompletion};
+use writer::register_request_callback::RegisterRequestCallbackFields;
 
 // Kinds 1 to 4.
 pub(crate) fn greetings(t: Table) -> Table {
@@ -56,7 +56,7 @@ pub(crate) fn added(t: Table) -> Table {
     };
     let callback = RegisterRequestCallbackFields {
         count: 1,
-        completion: RequestCompletion::Is(ids::CALLBACK),
+        completion: Some(ids::CALLBACK),
     };
     let announced = client(t, Fields::AddVirtualChannel, b"");
     let here = client(announced, Fields::AddDevice(device), &bytes::TEXTS);

@@ -1,63 +1,43 @@
 // What the readers say of one message, as the rest of a line.
-use answers::kind::Kind;
-use header::ids::{Known, RequestId};
+use header::ids::{InterfaceId, RequestId};
 use header::shared_msg_header;
-use header::shared_msg_header::{Header, HeaderRead};
 use kinds::kind;
-use kinds::kind::KindFound;
 use wire::message;
-use wire::message::{Asked, IoCompleted, Request};
+use wire::message::{Asked, IoCompleted, Request, Unfit, UrbCompleted};
 use words::layout::{Fault, Part};
 
-pub(crate) fn of_message(m: &[u8], side: u8, device: Known, callback: Known) {
-    match shared_msg_header::read(m) {
-        HeaderRead::Short => {
-            io::write_all(1, b" short");
-        }
-        HeaderRead::Is(h) => of_header(m, h, side, device, callback),
-    }
-}
-
-fn of_header(m: &[u8], h: Header, side: u8, device: Known, callback: Known) {
-    match kind::kind_of(h, side, device, callback) {
-        KindFound::Nothing => {
-            io::write_all(1, b" no kind");
-        }
-        KindFound::Is(found) => of_kind(m, found),
-    }
-}
-
-fn of_kind(m: &[u8], found: Kind) {
+pub(crate) fn of_message(
+    m: &[u8],
+    side: u8,
+    device: Option<InterfaceId>,
+    callback: Option<InterfaceId>,
+) {
+    let Some(h) = shared_msg_header::read(m) else {
+        io::write_all(1, b" short");
+        return;
+    };
+    let Some(found) = kind::kind_of(h, side, device, callback) else {
+        io::write_all(1, b" no kind");
+        return;
+    };
     io::write_all(1, b" kind");
-    number(answers::kind::number(found) as u64);
+    number(u64::from(u8::from(found)));
     of_asked(message::ask(found, m));
 }
 
-fn of_asked(asked: Asked) {
+fn of_asked(asked: Result<Asked, Unfit>) {
     match asked {
-        Asked::Fails(fault) => of_fault(fault),
-        Asked::Value => {
+        Err(Unfit::Sizes(fault)) => of_fault(fault),
+        Err(Unfit::Value) => {
             io::write_all(1, b" value");
         }
-        Asked::Step => plain(),
-        Asked::Device(device, ms) => of_device(device.number(), ms),
-        Asked::Callback(callback) => of_callback(callback),
-        Asked::IoControl(r) => of_request(r),
-        Asked::TransferIn(r) => of_request(r),
-        Asked::TransferOut(r) => of_request(r),
-        Asked::Cancel(request) => of_cancel(request),
-        Asked::Retract => plain(),
-        Asked::IoCompletion(c) => of_io_completion(c),
-        Asked::UrbCompletion(c) => {
-            let request = c.request;
-            let part = c.payload;
-            sized(request, c.size, part);
-        }
-        Asked::UrbCompletionNoData(c) => {
-            let request = c.request;
-            let part = c.payload;
-            sized(request, c.size, part);
-        }
+        Ok(Asked::Step | Asked::Retract) => plain(),
+        Ok(Asked::Device(device, ms)) => of_device(device.number(), ms),
+        Ok(Asked::Callback(callback)) => of_callback(callback),
+        Ok(Asked::IoControl(r) | Asked::TransferIn(r) | Asked::TransferOut(r)) => of_request(r),
+        Ok(Asked::Cancel(request)) => of_cancel(request),
+        Ok(Asked::IoCompletion(c)) => of_io_completion(c),
+        Ok(Asked::UrbCompletion(c) | Asked::UrbCompletionNoData(c)) => of_urb_completion(c),
     }
 }
 
@@ -85,38 +65,34 @@ fn of_device(device: u32, ms: u32) {
     payload(Part { start: 0, size: 0 });
 }
 
-fn of_callback(callback: Known) {
+fn of_callback(callback: Option<InterfaceId>) {
     io::write_all(1, b" fits");
     match callback {
-        Known::Nothing => {
+        None => {
             io::write_all(1, b" callback none");
         }
-        Known::Is(id) => named(b" callback", id.number()),
+        Some(id) => named(b" callback", id.number()),
     }
     payload(Part { start: 0, size: 0 });
 }
 
 fn of_request(r: Request) {
-    let request = r.request;
-    let part = r.payload;
     io::write_all(1, b" fits");
-    named(b" request", request.number());
+    named(b" request", r.request.number());
     if r.noack {
         io::write_all(1, b" noack");
     }
     named(b" size", r.size);
-    payload(part);
+    payload(r.payload);
 }
 
 fn of_io_completion(c: IoCompleted) {
-    let request = c.request;
-    let part = c.payload;
     io::write_all(1, b" fits");
-    named(b" request", request.number());
+    named(b" request", c.request.number());
     named(b" result", c.result);
     named(b" information", c.information);
     named(b" size", c.size);
-    payload(part);
+    payload(c.payload);
 }
 
 fn of_cancel(request: RequestId) {
@@ -125,11 +101,11 @@ fn of_cancel(request: RequestId) {
     payload(Part { start: 0, size: 0 });
 }
 
-fn sized(request: RequestId, size: u32, part: Part) {
+fn of_urb_completion(c: UrbCompleted) {
     io::write_all(1, b" fits");
-    named(b" request", request.number());
-    named(b" size", size);
-    payload(part);
+    named(b" request", c.request.number());
+    named(b" size", c.size);
+    payload(c.payload);
 }
 
 fn plain() {

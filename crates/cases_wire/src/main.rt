@@ -11,9 +11,8 @@
 //   15  message
 #![tactic(auto)]
 
-use header::ids::Known;
-use header::shared_msg_header;
-use header::shared_msg_header::HeaderRead;
+use header::ids::InterfaceId;
+use words::numbers::u32_at;
 
 mod line;
 
@@ -27,9 +26,10 @@ fn main() {
 
 // Nothing says that an input ends, so the records are counted up to a number that no input reaches.
 fn lines(space: &mut [u8]) {
-    let mut number: u64 = 1;
-    while number < 1000000 && record(number, space) {
-        number += 1;
+    for number in 1..1000000 {
+        if !record(number, space) {
+            return;
+        }
     }
 }
 
@@ -41,32 +41,19 @@ fn record(number: u64, space: &mut [u8]) -> bool {
         return false;
     }
     io::print_decimal(1, number);
-    let size = word(head[11], head[12], head[13], head[14]) as usize;
-    if got < 15 {
+    let size = u32_at(&head, 11) as usize;
+    if got < 15 || space.len() < size {
         return cut();
     }
-    let device = known(head[1], head[2], head[3], head[4], head[5]);
-    let callback = known(head[6], head[7], head[8], head[9], head[10]);
-    if !sized(space, size, head[0], device, callback) {
-        return cut();
-    }
-    true
-}
-
-// Reads a message of `size` bytes, and says what it is. False where there is no space for it.
-fn sized(space: &mut [u8], size: usize, side: u8, device: Known, callback: Known) -> bool {
-    if space.len() < size {
-        return false;
-    }
-    message(&mut space[..size], side, device, callback)
+    message(&head, &mut space[..size])
 }
 
 // Reads a message that fills `m`, and says what it is. False where the input ends in it.
-fn message(m: &mut [u8], side: u8, device: Known, callback: Known) -> bool {
+fn message(head: &[u8; 15], m: &mut [u8]) -> bool {
     if io::read_full(0, m) < m.len() {
-        return false;
+        return cut();
     }
-    line::of_message(m, side, device, callback);
+    line::of_message(m, head[0], known(head, 1), known(head, 6));
     io::write_all(1, b"\n");
     true
 }
@@ -76,27 +63,12 @@ fn cut() -> bool {
     false
 }
 
-// An id comes only from a message that was read, so this one comes from a header with that number in it.
-fn known(flag: u8, a: u8, b: u8, c: u8, d: u8) -> Known {
-    if flag == 0 {
-        return Known::Nothing;
-    }
-    let bytes = [a, b, c, d, 0, 0, 0, 0, 0, 0, 0, 0];
-    match shared_msg_header::read(&bytes) {
-        HeaderRead::Short => Known::Nothing,
-        HeaderRead::Is(h) => {
-            let id = h.interface;
-            Known::Is(id)
-        }
-    }
-}
-
-fn wide(x: u8) -> u32
-    ensures { result < 256 }
+// The interface behind the byte at a place, which says whether it is known.
+fn known(head: &[u8; 15], at: usize) -> Option<InterfaceId>
+    requires { at < 15 }
 {
-    x as u32
-}
-
-fn word(a: u8, b: u8, c: u8, d: u8) -> u32 {
-    wide(a) + 256 * wide(b) + 65536 * wide(c) + 16777216 * wide(d)
+    if head[at] == 0 {
+        return None;
+    }
+    Some(InterfaceId::read(head, at + 1))
 }

@@ -1,6 +1,5 @@
 -- The rows of a channel, and a new channel.
-use Rattle.std.specs.Prelude.{ℕ, List, map, true, get_or, set, replicate}
-use Rattle.header.specs.declared.ids.Known.TheVariants as known
+use Rattle.std.specs.Prelude.{ℕ, List, map, true, get_or, set, replicate, None}
 use Rattle.channel.specs.declared.row.Open.{Open}
 use Rattle.channel.specs.declared.row.Sort.{Sort}
 use Rattle.channel.specs.declared.row.Sort.TheVariants.{Free, Io, In, Out}
@@ -47,4 +46,4 @@ emptied c = with_rows c (replicate 16 free_row)
 
 -- a new channel: phase 0, nothing known, NoAck 0, no rows
 abbrev pub new_channel : Channel
-new_channel = record { phase = 0; device = known.Nothing; callback = known.Nothing; jitter = 0; rows = replicate 16 free_row }
+new_channel = record { phase = 0; device = None; callback = None; jitter = 0; rows = replicate 16 free_row }

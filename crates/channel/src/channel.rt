@@ -3,14 +3,15 @@ ghost use Rattle.std.specs.Prelude.{◌≡◌};
 ghost use Rattle.channel.specs.Rows.{with_row, with_mark, emptied, new_channel};
 
 use crate::row;
-use crate::row::{Row, Sort};
-use header::ids::Known;
+use crate::row::Row;
+use header::ids::InterfaceId;
 
 #[derive(Clone, Copy)]
 pub struct Channel {
+    // any number and no enum: a call is answered on every table (demand 1)
     pub phase: u8,
-    pub device: Known,
-    pub callback: Known,
+    pub device: Option<InterfaceId>,
+    pub callback: Option<InterfaceId>,
     // the device's NoAck milliseconds
     pub jitter: u32,
     pub rows: [Row; 16],
@@ -20,48 +21,39 @@ pub struct Channel {
 pub fn new() -> Channel
     ensures { result ≡ new_channel }
 {
-    let row = Row { sort: Sort::Free };
-    let rows = [row; 16];
     Channel {
         phase: 0,
-        device: Known::Nothing,
-        callback: Known::Nothing,
+        device: None,
+        callback: None,
         jitter: 0,
-        rows: rows,
+        rows: [Row::FREE; 16],
     }
 }
 
 // The channel with another row at a place; a place past the last row changes nothing.
-pub fn put(c: Channel, at: usize, row: Row) -> Channel
+pub fn put(mut c: Channel, at: usize, row: Row) -> Channel
     ensures { result ≡ with_row c at row }
 {
-    if at < 16 {
-        let mut d = c;
-        d.rows[at] = row;
-        d
-    } else {
-        c
+    if at < c.rows.len() {
+        c.rows[at] = row;
     }
+    c
 }
 
 // The channel with the row at a place marked; a place past the last row changes nothing.
 pub fn mark(c: Channel, at: usize) -> Channel
     ensures { result ≡ with_mark c at }
 {
-    if 16 <= at {
-        return c;
+    match c.rows.get(at) {
+        Some(row) => put(c, at, row::mark(*row)),
+        None => c,
     }
-    let row = c.rows[at];
-    put(c, at, row::mark(row))
 }
 
 // The channel with every row free.
 pub fn empty(c: Channel) -> Channel
     ensures { result ≡ emptied c }
 {
-    let row = Row { sort: Sort::Free };
-    let rows = [row; 16];
-    let mut d = c;
-    d.rows = rows;
-    d
+    let rows = [Row::FREE; 16];
+    Channel { rows, ..c }
 }

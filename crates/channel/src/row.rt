@@ -13,7 +13,7 @@ pub struct Open {
     pub marked: bool,
 }
 
-// Free or in use is told by the sort alone, never by a number or a mark.
+// Free or in use is told by the sort alone, never by a number or a mark. Three sorts beside nothing, and no Option of one: a match decides all four.
 #[derive(Clone, Copy)]
 pub enum Sort {
     Free,
@@ -27,40 +27,25 @@ pub struct Row {
     pub sort: Sort,
 }
 
+impl Row {
+    pub const FREE: Row = Row { sort: Sort::Free };
+}
+
 fn mark_open(o: Open) -> Open
     ensures { result ≡ marked_open o }
 {
-    let request = o.request;
-    Open {
-        request: request,
-        number: o.number,
-        size: o.size,
-        marked: true,
-    }
+    Open { marked: true, ..o }
 }
 
 // The row with its request marked and all else as it was; a free row has nothing to mark.
 pub(crate) fn mark(row: Row) -> Row
     ensures { result ≡ marked_row row }
 {
-    let sort = row.sort;
-    match sort {
-        Sort::Free => Row { sort: Sort::Free },
-        Sort::Io(o) => {
-            let io = mark_open(o);
-            Row { sort: Sort::Io(io) }
-        }
-        Sort::In(o) => {
-            let into = mark_open(o);
-            Row {
-                sort: Sort::In(into),
-            }
-        }
-        Sort::Out(o) => {
-            let out = mark_open(o);
-            Row {
-                sort: Sort::Out(out),
-            }
-        }
-    }
+    let sort = match row.sort {
+        Sort::Free => Sort::Free,
+        Sort::Io(o) => Sort::Io(mark_open(o)),
+        Sort::In(o) => Sort::In(mark_open(o)),
+        Sort::Out(o) => Sort::Out(mark_open(o)),
+    };
+    Row { sort }
 }

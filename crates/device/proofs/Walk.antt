@@ -13,23 +13,16 @@ use Rattle.words.specs.Words.{word_at}
 use Rattle.device.specs.DeviceCapabilities.{no_row, capability_rows, offset_at, among, rows_allow}
 use Rattle.device.specs.declared.device_capabilities.Row.{Row}
 
--- a turn of a loop that has come to row k, whose invariant is that the rows from there on say w, which is what all of them say. b is the code's test of the row
+-- a walk that has come to row k, where the rows from there on say w, which is what all of them say. b is a test of the row
 module _ (v : Row → ℕ) (rs : List Row) (k : ℕ) (w : Bool) (inv : rows_allow v (drop k rs) ≡ w) where
   pub row_refuses : (b : Bool) → b ≡ among (get_or rs k no_row).2 (v (get_or rs k no_row)) → b ≡ false → k < length rs → false ≡ w
-  unfolding rows_allow
   row_refuses b e t h = rw (← inv, drop-cons rs k no_row h, ← e, t)
 
   pub row_passes : (b : Bool) → b ≡ among (get_or rs k no_row).2 (v (get_or rs k no_row)) → b ≡ true → k < length rs → rows_allow v (drop (k + 1) rs) ≡ w
-  unfolding rows_allow
   row_passes b e t h = rw (← inv, drop-cons rs k no_row h, ← e, t, add-one)
 
   pub rows_passed : length rs ≤ k → true ≡ w
-  unfolding rows_allow
   rows_passed h = rw (← inv, drop_of_length-le rs h)
-
-pub rows_count : (rs : List Row) → rs ≡ capability_rows → length rs ≡ 7
-unfolding capability_rows
-rows_count rs e = rw e
 
 -- no row of a table starts behind byte n, where a test of all of them says so
 abbrev starts_by : ℕ → List Row → Bool

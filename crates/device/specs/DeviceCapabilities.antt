@@ -1,22 +1,22 @@
 -- USB_DEVICE_CAPABILITIES (000 2.2.11).
-use Rattle.std.specs.Prelude.{ℕ, ◌+◌, ◌*◌, ◌/◌, List, [], ◌∷◌, Bool, true, cond, not, ◌&&◌, ◌||◌, eqb, ltb, leb, get_or}
+use Rattle.std.specs.Prelude.{ℕ, ◌+◌, ◌*◌, ◌/◌, List, [], ◌∷◌, Bool, cond, not, ◌&&◌, ◌||◌, eqb, ltb, leb, get_or, Result, Ok, Err}
+use Rattle.std.specs.List.{list_all}
 use Rattle.words.specs.Words.{word_at}
 use Rattle.words.specs.Layout.{left}
 use Rattle.device.specs.declared.device_capabilities.DeviceCapabilities.{DeviceCapabilities}
-use Rattle.device.specs.declared.device_capabilities.CapabilitiesRead.{CapabilitiesRead}
-use Rattle.device.specs.declared.device_capabilities.CapabilitiesRead.TheVariants.{Fits, Fails}
 use Rattle.device.specs.declared.device_capabilities.Row.{Row}
 use Rattle.device.specs.declared.device_capabilities.Field.{Field}
 use Rattle.device.specs.declared.device_capabilities.Field.TheVariants.{CbSize, UsbBusInterfaceVersion, USBDI_Version, Supported_USB_Version, HcdCapabilities, DeviceIsHighSpeed, NoAckIsochWriteJitterBufferSizeInMs}
 use Rattle.device.specs.declared.device_capabilities.Values.{Values}
 use Rattle.device.specs.declared.device_capabilities.Values.TheVariants.{One, Two, Three, OneOr}
 use Rattle.words.specs.declared.layout.Fault.TheVariants.{RanOut}
+use Rattle.words.specs.declared.layout.Fault.{Fault}
 
 -- seven fields of four bytes: of n bytes that are too few, the first field that they do not hold starts at n / 4 * 4
-unfoldable pub capabilities_of : List ℕ → ℕ → CapabilitiesRead
+unfoldable pub capabilities_of : List ℕ → ℕ → Result (DeviceCapabilities × ℕ) Fault
 capabilities_of m at =
-    cond (ltb (left m at) 28) (Fails (RanOut (at + left m at / 4 * 4)))
-    (Fits (record { size = word_at m at; bus = word_at m (at + 4); usbdi = word_at m (at + 8); usb = word_at m (at + 12); host = word_at m (at + 16); speed = word_at m (at + 20); jitter = word_at m (at + 24) }) (at + 28))
+    cond (ltb (left m at) 28) (Err (RanOut (at + left m at / 4 * 4)))
+    (Ok ((record { size = word_at m at; bus = word_at m (at + 4); usbdi = word_at m (at + 8); usb = word_at m (at + 12); host = word_at m (at + 16); speed = word_at m (at + 20); jitter = word_at m (at + 24) }), (at + 28)))
 
 -- a row: where the field starts, its name in 000, the values that it may have
 abbrev pub row : ℕ → Field → Values → Row
@@ -63,9 +63,8 @@ abbrev pub word_by : List ℕ → ℕ → Row → ℕ
 word_by m at r = word_at m (at + r.0)
 
 -- what v gives for each row is among that row's values
-unfoldable pub rows_allow : (Row → ℕ) → List Row → Bool
-rows_allow v [] = true
-rows_allow v (r ∷ rs) = among r.2 (v r) && rows_allow v rs
+abbrev pub rows_allow : (Row → ℕ) → List Row → Bool
+rows_allow v rs = list_all (λ r. among r.2 (v r)) rs
 
 unfoldable pub capabilities_allowed : DeviceCapabilities → Bool
 capabilities_allowed c = rows_allow (field_by c) capability_rows && speed_suits_bus c.bus c.speed

@@ -66,22 +66,15 @@ pub struct DeviceCapabilities {
     pub jitter: u32,
 }
 
-// The capabilities and the byte behind them.
-#[derive(Clone, Copy)]
-pub enum CapabilitiesRead {
-    Fits(DeviceCapabilities, usize),
-    Fails(Fault),
-}
-
 #[tactic(auto, unfolding(crate::specs::DeviceCapabilities::capabilities_of, crate::specs::DeviceCapabilities::capability_rows))]
-pub fn read(m: &[u8], at: usize) -> CapabilitiesRead
+pub fn read(m: &[u8], at: usize) -> Result<(DeviceCapabilities, usize), Fault>
     ensures { result ≡ capabilities_of m.now at }
 {
     let left = rest(m, at);
     if left < 28 {
-        return CapabilitiesRead::Fails(Fault::RanOut(at + left / 4 * 4));
+        return Err(Fault::RanOut(at + left / 4 * 4));
     }
-    CapabilitiesRead::Fits(
+    Ok((
         DeviceCapabilities {
             size: word(m, at, 0),
             bus: word(m, at, 1),
@@ -92,7 +85,7 @@ pub fn read(m: &[u8], at: usize) -> CapabilitiesRead
             jitter: word(m, at, 6),
         },
         at + 28,
-    )
+    ))
 }
 
 // The field of row k of ROWS, where all 28 bytes are there.
@@ -117,16 +110,7 @@ pub fn allowed(c: DeviceCapabilities) -> bool
 fn rows_allow(c: DeviceCapabilities) -> bool
     ensures { result ≡ rows_allow (field_by c) capability_rows }
 {
-    let rows = rows();
-    let mut k: usize = 0;
-    while k < 7 {
-        let row = rows[k];
-        if !row_allows(row, c) {
-            return false;
-        }
-        k += 1;
-    }
-    true
+    rows().iter().all(|row| row_allows(*row, c))
 }
 
 fn row_allows(row: Row, c: DeviceCapabilities) -> bool

@@ -2,7 +2,6 @@
 ghost use Rattle.std.specs.Prelude.{◌<◌};
 
 use crate::transfer;
-use crate::transfer::GivenUrb;
 use device::device_capabilities::DeviceCapabilities;
 use header::ids::RequestId;
 use wire::cancel_request::CancelRequest;
@@ -16,16 +15,9 @@ use words::numbers::u32_at;
 use writer::add_device::AddDeviceFields;
 use writer::io_control_completion::IoControlCompletionFields;
 use writer::message::Fields;
-use writer::register_request_callback::{RegisterRequestCallbackFields, RequestCompletion};
+use writer::register_request_callback::RegisterRequestCallbackFields;
 use writer::transfer::{TransferInFields, TransferOutFields};
 use writer::urb_completion::{UrbCompletionFields, UrbCompletionNoDataFields, UrbResultFields};
-
-// What the writer can be called with, if the numbers say it.
-#[derive(Clone, Copy)]
-pub(crate) enum Given {
-    Nothing,
-    Is(Fields),
-}
 
 // Field k of a call: they stand from its byte 20 on.
 pub(crate) fn field(head: &[u8], k: usize) -> u32
@@ -50,47 +42,48 @@ pub(crate) fn part(head: &[u8], k: usize) -> Part
     }
 }
 
-pub(crate) fn of(kind: u32, h: &[u8]) -> Given {
+// What the writer can be called with, if the numbers say it.
+pub(crate) fn of(kind: u32, h: &[u8]) -> Option<Fields> {
     let i = u32_at(h, 12);
     match kind {
-        1 => Given::Is(Fields::CapabilityRequest(CapabilityRequest {
+        1 => Some(Fields::CapabilityRequest(CapabilityRequest {
             capability: field(h, 0),
         })),
-        2 => Given::Is(Fields::CapabilityResponse(CapabilityResponse {
+        2 => Some(Fields::CapabilityResponse(CapabilityResponse {
             capability: field(h, 0),
             result: field(h, 1),
         })),
-        3 => Given::Is(Fields::ChannelCreatedByServer(channel_created(h))),
-        4 => Given::Is(Fields::ChannelCreatedByClient(channel_created(h))),
-        5 => Given::Is(Fields::AddVirtualChannel),
-        6 => Given::Is(Fields::AddDevice(add_device(h))),
+        3 => Some(Fields::ChannelCreatedByServer(channel_created(h))),
+        4 => Some(Fields::ChannelCreatedByClient(channel_created(h))),
+        5 => Some(Fields::AddVirtualChannel),
+        6 => Some(Fields::AddDevice(add_device(h))),
         _ => to_device(kind, i, h),
     }
 }
 
-fn to_device(kind: u32, i: u32, h: &[u8]) -> Given {
+fn to_device(kind: u32, i: u32, h: &[u8]) -> Option<Fields> {
     match kind {
-        7 => Given::Is(Fields::RegisterRequestCallback(i, callback(h))),
-        8 => Given::Is(Fields::IoControl(i, io_control(h))),
-        9 => Given::Is(Fields::InternalIoControl(i, io_control(h))),
+        7 => Some(Fields::RegisterRequestCallback(i, callback(h))),
+        8 => Some(Fields::IoControl(i, io_control(h))),
+        9 => Some(Fields::InternalIoControl(i, io_control(h))),
         10 => transfer_in(i, h),
         11 => transfer_out(i, h),
-        13 => Given::Is(Fields::CancelRequest(
+        13 => Some(Fields::CancelRequest(
             i,
             CancelRequest {
                 request: request(h, 0),
             },
         )),
-        14 => Given::Is(Fields::RetractDevice(
+        14 => Some(Fields::RetractDevice(
             i,
             RetractDevice {
                 reason: field(h, 0),
             },
         )),
-        15 => Given::Is(Fields::IoControlCompletion(i, io_completion(h))),
-        16 => Given::Is(Fields::UrbCompletion(i, urb_completion(h))),
-        17 => Given::Is(Fields::UrbCompletionNoData(i, no_data(h))),
-        _ => Given::Nothing,
+        15 => Some(Fields::IoControlCompletion(i, io_completion(h))),
+        16 => Some(Fields::UrbCompletion(i, urb_completion(h))),
+        17 => Some(Fields::UrbCompletionNoData(i, no_data(h))),
+        _ => None,
     }
 }
 
@@ -123,15 +116,10 @@ fn add_device(h: &[u8]) -> AddDeviceFields {
 }
 
 fn callback(h: &[u8]) -> RegisterRequestCallbackFields {
-    if field(h, 1) == 0 {
-        return RegisterRequestCallbackFields {
-            count: field(h, 0),
-            completion: RequestCompletion::Nothing,
-        };
-    }
+    let given = field(h, 1) != 0;
     RegisterRequestCallbackFields {
         count: field(h, 0),
-        completion: RequestCompletion::Is(field(h, 2)),
+        completion: if given { Some(field(h, 2)) } else { None },
     }
 }
 
@@ -144,30 +132,20 @@ fn io_control(h: &[u8]) -> IoControl {
     }
 }
 
-fn transfer_in(i: u32, h: &[u8]) -> Given {
-    match transfer::of(h) {
-        GivenUrb::Nothing => Given::Nothing,
-        GivenUrb::Is(t) => Given::Is(Fields::TransferInRequest(
-            i,
-            TransferInFields {
-                urb: t,
-                size: field(h, 0),
-            },
-        )),
-    }
+fn transfer_in(i: u32, h: &[u8]) -> Option<Fields> {
+    let transfer = TransferInFields {
+        urb: transfer::of(h)?,
+        size: field(h, 0),
+    };
+    Some(Fields::TransferInRequest(i, transfer))
 }
 
-fn transfer_out(i: u32, h: &[u8]) -> Given {
-    match transfer::of(h) {
-        GivenUrb::Nothing => Given::Nothing,
-        GivenUrb::Is(t) => Given::Is(Fields::TransferOutRequest(
-            i,
-            TransferOutFields {
-                urb: t,
-                output: part(h, 0),
-            },
-        )),
-    }
+fn transfer_out(i: u32, h: &[u8]) -> Option<Fields> {
+    let transfer = TransferOutFields {
+        urb: transfer::of(h)?,
+        output: part(h, 0),
+    };
+    Some(Fields::TransferOutRequest(i, transfer))
 }
 
 fn io_completion(h: &[u8]) -> IoControlCompletionFields {

@@ -3,15 +3,13 @@
 
 use header::ids::MessageId;
 use pieces::interface;
-use pieces::piece::Written;
+use pieces::piece::Unwritten;
 use words::numbers::u32_at;
 use writer::message;
 
 mod fields;
 mod text;
 mod transfer;
-
-use crate::fields::Given;
 
 fn main() {
     let mut lent = [0u8; 70000];
@@ -21,9 +19,10 @@ fn main() {
 
 // No input has as many calls as a number of 64 bits counts.
 fn calls(lent: &mut [u8], room: &mut [u8]) {
-    let mut number: u64 = 0;
-    while number < 0xFFFF_FFFF_FFFF_FFFF && call(lent, room) {
-        number += 1;
+    for _ in 0..u64::MAX {
+        if !call(lent, room) {
+            return;
+        }
     }
 }
 
@@ -42,10 +41,7 @@ fn call(lent: &mut [u8], room: &mut [u8]) -> bool {
 }
 
 fn is_kind(kind: u32) -> bool {
-    match kind {
-        0..=11 | 13..=17 => true,
-        _ => false,
-    }
+    matches!(kind, 0..=11 | 13..=17)
 }
 
 // The lent bytes fill `lent`. False where the input ends in them.
@@ -53,38 +49,28 @@ fn with_lent(head: &[u8], lent: &mut [u8], room: &mut [u8]) -> bool {
     if io::read_full(0, lent) < lent.len() {
         return false;
     }
-    fill(room);
+    room.fill(0xA5);
     let written = write(head, lent, room);
     text::line(written, room);
     true
 }
 
-fn fill(room: &mut [u8]) {
-    let mut i: usize = 0;
-    while i < room.len() {
-        room[i] = 0xA5;
-        i += 1;
-    }
-}
-
-fn write(head: &[u8], lent: &[u8], room: &mut [u8]) -> Written {
+fn write(head: &[u8], lent: &[u8], room: &mut [u8]) -> Result<usize, Unwritten> {
     let kind = u32_at(head, 0);
     if kind == 0 {
         return one_interface(lent, room);
     }
-    match fields::of(kind, head) {
-        Given::Nothing => Written::Value,
-        Given::Is(f) => message::write(MessageId::read(head, 16), f, lent, room),
-    }
+    let f = fields::of(kind, head).ok_or(Unwritten::Value)?;
+    message::write(MessageId::read(head, 16), f, lent, room)
 }
 
 // The lent bytes as numbers; one more than the most that are taken stands for all above.
-fn one_interface(lent: &[u8], room: &mut [u8]) -> Written {
-    let mut numbers = [0u32; 94];
-    let mut n: usize = 0;
-    while n < 94 && n < lent.len() / 4 {
-        numbers[n] = u32_at(lent, 4 * n);
-        n += 1;
+fn one_interface(lent: &[u8], room: &mut [u8]) -> Result<usize, Unwritten> {
+    const READ: usize = interface::MOST_NUMBERS + 1;
+    let mut numbers = [0u32; READ];
+    let n = (lent.len() / 4).min(READ);
+    for (number, word) in numbers.iter_mut().zip(lent.chunks_exact(4)) {
+        *number = u32_at(word, 0);
     }
     interface::write(&numbers[..n], room)
 }

@@ -8,17 +8,11 @@ use writer::ts_urb::{
 };
 
 // None where no structure has the number, or NoAck is no single bit.
-#[derive(Clone, Copy)]
-pub(crate) enum GivenUrb {
-    Nothing,
-    Is(TsUrbFields),
-}
-
-pub(crate) fn of(h: &[u8]) -> GivenUrb {
+pub(crate) fn of(h: &[u8]) -> Option<TsUrbFields> {
     if 6 < field(h, 2) || 1 < field(h, 5) {
-        return GivenUrb::Nothing;
+        return None;
     }
-    GivenUrb::Is(TsUrbFields {
+    Some(TsUrbFields {
         function: field(h, 3),
         request: request(h, 4),
         noack: field(h, 5) == 1,

@@ -1,5 +1,5 @@
 -- The fields of a message of a kind, as the writer takes them. i is the interface of its header.
-use Rattle.std.specs.Prelude.{ℕ, ◌+◌, List, cond, eqb}
+use Rattle.std.specs.Prelude.{ℕ, ◌+◌, List, cond, eqb, Some, None}
 use Rattle.words.specs.Words.{word_at}
 use Rattle.header.specs.Ids.{interface_in, request_in}
 use Rattle.answers.specs.declared.kind.Kind.{Kind}
@@ -8,7 +8,6 @@ use Rattle.wire.specs.declared.channel_created.ChannelCreated.{ChannelCreated}
 use Rattle.wire.specs.declared.io_control.IoControl.{IoControl}
 use Rattle.writer.specs.declared.io_control_completion.IoControlCompletionFields.{IoControlCompletionFields}
 use Rattle.writer.specs.declared.register_request_callback.RegisterRequestCallbackFields.{RegisterRequestCallbackFields}
-use Rattle.writer.specs.declared.register_request_callback.RequestCompletion.TheVariants as completion
 use Rattle.writer.specs.declared.message.Fields.{Fields}
 use Rattle.writer.specs.declared.message.Fields.TheVariants as fields
 use Rattle.fields.specs.AddDevice.{add_device_in}
@@ -22,8 +21,8 @@ channel_created_in m = record { major = word_at m 12; minor = word_at m 16; capa
 abbrev pub callback_in : List ℕ → RegisterRequestCallbackFields
 callback_in m =
     cond (eqb (word_at m 12) 0)
-    (record { count = word_at m 12; completion = completion.Nothing })
-    (record { count = word_at m 12; completion = completion.Is (word_at m 16) })
+    (record { count = word_at m 12; completion = None })
+    (record { count = word_at m 12; completion = Some (word_at m 16) })
 
 abbrev pub io_control_in : List ℕ → IoControl
 io_control_in m = record { code = word_at m 12; input = record { start = 20; size = word_at m 16 }; size = word_at m (20 + word_at m 16); request = request_in (word_at m (20 + word_at m 16 + 4)) }

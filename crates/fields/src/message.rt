@@ -15,7 +15,7 @@ use words::layout::Part;
 use words::numbers::u32_at;
 use writer::io_control_completion::IoControlCompletionFields;
 use writer::message::Fields;
-use writer::register_request_callback::{RegisterRequestCallbackFields, RequestCompletion};
+use writer::register_request_callback::RegisterRequestCallbackFields;
 
 fn channel_created(m: &[u8]) -> ChannelCreated
     ensures { result ≡ channel_created_in m.now }
@@ -31,15 +31,13 @@ fn callback(m: &[u8]) -> RegisterRequestCallbackFields
     ensures { result ≡ callback_in m.now }
 {
     let count = u32_at(m, 12);
-    if count == 0 {
-        return RegisterRequestCallbackFields {
-            count: count,
-            completion: RequestCompletion::Nothing,
-        };
-    }
     RegisterRequestCallbackFields {
-        count: count,
-        completion: RequestCompletion::Is(u32_at(m, 16)),
+        count,
+        completion: if count == 0 {
+            None
+        } else {
+            Some(u32_at(m, 16))
+        },
     }
 }
 

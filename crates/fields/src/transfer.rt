@@ -4,8 +4,8 @@ ghost use Rattle.fields.specs.Transfer.{structure_in, transfer_in, transfer_out,
 
 use header::ids::RequestId;
 use urb::ts_urb;
-use urb::ts_urb::{TsUrbRead, Urb};
-use words::layout::Part;
+use urb::ts_urb::{TsUrb, Urb};
+use words::layout::{Fault, Part};
 use words::numbers::u32_at;
 use writer::transfer::{TransferInFields, TransferOutFields};
 use writer::ts_urb::{
@@ -17,58 +17,43 @@ fn structure(urb: Urb) -> Structure
     ensures { result ≡ structure_in urb }
 {
     match urb {
-        Urb::SelectConfiguration(b) => {
-            let list = b.interfaces;
-            let d = b.descriptor;
-            let part = d.part;
-            Structure::SelectConfiguration(SelectConfigurationFields {
-                flag: b.flag,
-                count: b.count,
-                interfaces: list,
-                descriptor: part,
-            })
-        }
-        Urb::SelectInterface(b) => {
-            let one = b.interface;
-            Structure::SelectInterface(SelectInterfaceFields {
-                handle: b.handle,
-                interface: one,
-            })
-        }
+        Urb::SelectConfiguration(b) => Structure::SelectConfiguration(SelectConfigurationFields {
+            flag: b.flag,
+            count: b.count,
+            interfaces: b.interfaces,
+            descriptor: b.descriptor.part,
+        }),
+        Urb::SelectInterface(b) => Structure::SelectInterface(SelectInterfaceFields {
+            handle: b.handle,
+            interface: b.interface,
+        }),
         Urb::GetCurrentFrameNumber => Structure::GetCurrentFrameNumber,
         Urb::PipeRequest(b) => Structure::PipeRequest(b),
         Urb::BulkOrInterruptTransfer(b) => Structure::BulkOrInterruptTransfer(b),
         Urb::ControlTransfer(b) => Structure::ControlTransfer(b),
-        Urb::IsochTransfer(b) => {
-            let list = b.list;
-            Structure::IsochTransfer(IsochTransferFields {
-                pipe: b.pipe,
-                flags: b.flags,
-                start: b.start,
-                errors: b.errors,
-                list: list,
-            })
-        }
+        Urb::IsochTransfer(b) => Structure::IsochTransfer(IsochTransferFields {
+            pipe: b.pipe,
+            flags: b.flags,
+            start: b.start,
+            errors: b.errors,
+            list: b.list,
+        }),
         Urb::Unknown => Structure::GetCurrentFrameNumber,
     }
 }
 
 // A TsUrb of which the sizes do not add up has a function that no TsUrb has.
-fn from_read(m: &[u8], read: TsUrbRead) -> TsUrbFields
+fn from_read(m: &[u8], read: Result<(TsUrb, usize), Fault>) -> TsUrbFields
     ensures { result ≡ urb_by m.now read }
 {
     match read {
-        TsUrbRead::Fits(t, _) => {
-            let request = t.request;
-            let urb = t.urb;
-            TsUrbFields {
-                function: t.function,
-                request: request,
-                noack: t.noack,
-                structure: structure(urb),
-            }
-        }
-        TsUrbRead::Fails(_) => TsUrbFields {
+        Ok((t, _)) => TsUrbFields {
+            function: t.function,
+            request: t.request,
+            noack: t.noack,
+            structure: structure(t.urb),
+        },
+        Err(_) => TsUrbFields {
             function: 0x1_0000,
             request: RequestId::read_urb(m, 20),
             noack: false,
@@ -81,10 +66,7 @@ fn urb_in(m: &[u8], n: u32) -> TsUrbFields
     ensures { result ≡ urb_in m.now n }
 {
     let end = 16 + n as usize;
-    if m.len() < end {
-        return from_read(m, ts_urb::read(m));
-    }
-    from_read(m, ts_urb::read(&m[..end]))
+    from_read(m, ts_urb::read(m.get(..end).unwrap_or(m)))
 }
 
 #[tactic(auto, unfolding(crate::specs::Transfer::transfer_in))]

@@ -11,10 +11,7 @@ use writer::urb_completion::{UrbCompletionFields, UrbCompletionNoDataFields, Urb
 fn behind_header(n: u32) -> usize
     ensures { result ≡ behind_header n }
 {
-    if n < 8 {
-        return 0;
-    }
-    (n - 8) as usize
+    n.saturating_sub(8) as usize
 }
 
 fn result(m: &[u8], n: u32) -> UrbResultFields

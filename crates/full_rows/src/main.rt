@@ -6,9 +6,8 @@
 // A line a call: its answer, the next number after it, and then the 16 rows, each by the RequestId that it holds, with a star where it is marked, or by a dash where it is free.
 #![tactic(auto)]
 
-ghost use Rattle.std.specs.Prelude.{◌≤◌};
+ghost use Rattle.std.specs.Prelude.{◌<◌, ◌≤◌};
 
-use answers::answer;
 use channel::channel::Channel;
 use channel::row::{Open, Row, Sort};
 use table::table::Table;
@@ -52,14 +51,15 @@ fn limits() {
 fn long(t: Table, input: u8, size: usize) -> Table
     requires { size ≤ 65536 }
 {
-    let mut m = messages::zeros();
+    // room for a message that is a byte too long
+    let mut m = [0u8; 65536];
     m[0] = 0x04;
     m[3] = 0x40;
     m[8] = 0x02;
     m[9] = 0x01;
     m[16] = input;
     m[17] = 0xFF;
-    call(t, SERVER, &m[0..size])
+    call(t, SERVER, &m[..size])
 }
 
 // From phase 0 to a device with a callback.
@@ -75,71 +75,63 @@ fn session(t: Table) -> Table {
 // Requests 0 to 15.
 fn fill(t: Table) -> Table {
     let mut now = t;
-    let mut id: u8 = 0;
-    while id < 16 {
+    for id in 0..16 {
         now = request(now, id);
-        id += 1;
     }
     now
 }
 
 fn request(t: Table, id: u8) -> Table {
-    let mut m = messages::IO_CONTROL;
-    m[24] = id;
-    call(t, SERVER, &m)
+    with_id(t, SERVER, messages::IO_CONTROL, 24, id)
 }
 
 fn cancel(t: Table, id: u8) -> Table {
-    let mut m = messages::CANCEL_REQUEST;
-    m[12] = id;
-    call(t, SERVER, &m)
+    with_id(t, SERVER, messages::CANCEL_REQUEST, 12, id)
 }
 
 fn complete(t: Table, id: u8) -> Table {
-    let mut m = messages::IO_CONTROL_COMPLETION;
-    m[12] = id;
-    call(t, CLIENT, &m)
+    with_id(t, CLIENT, messages::IO_CONTROL_COMPLETION, 12, id)
+}
+
+// A message whose RequestId has this as its first byte.
+fn with_id<const N: usize>(t: Table, side: u8, message: [u8; N], at: usize, id: u8) -> Table
+    requires { at < N }
+{
+    let mut m = message;
+    m[at] = id;
+    call(t, side, &m)
 }
 
 // Judges a message on channel 0, and says what came of it.
 fn call(t: Table, side: u8, m: &[u8]) -> Table {
     let j = table::table::judge(t, 0, side, 0, m);
-    let a = j.answer;
     let after = j.table;
-    io::print_decimal(1, answer::number(a) as u64);
+    io::print_decimal(1, u64::from(u8::from(j.answer)));
     io::write_all(1, b" ");
-    io::print_decimal(1, after.next as u64);
-    let c = after.channels[0];
-    rows(c);
+    io::print_decimal(1, u64::from(after.next));
+    rows(after.channels[0]);
     io::write_all(1, b"\n");
     after
 }
 
 fn rows(c: Channel) {
-    let mut i: usize = 0;
-    while i < 16 {
-        let r = c.rows[i];
+    for r in c.rows {
         io::write_all(1, b" ");
         row(r);
-        i += 1;
     }
 }
 
 fn row(r: Row) {
-    let sort = r.sort;
-    match sort {
+    match r.sort {
         Sort::Free => {
             io::write_all(1, b"-");
         }
-        Sort::Io(o) => id(o),
-        Sort::In(o) => id(o),
-        Sort::Out(o) => id(o),
+        Sort::Io(o) | Sort::In(o) | Sort::Out(o) => id(o),
     }
 }
 
 fn id(o: Open) {
-    let request = o.request;
-    io::print_decimal(1, request.number() as u64);
+    io::print_decimal(1, u64::from(o.request.number()));
     if o.marked {
         io::write_all(1, b"*");
     }

@@ -1,6 +1,4 @@
 // The messages of the session, byte by byte as 000 lays them out.
-ghost use Rattle.std.specs.Prelude.{◌≡◌, length};
-
 // Kind 1 (000 2.2.3.1).
 pub(crate) const CAPABILITY_REQUEST: [u8; 16] =
     *b"\x00\x00\x00\x00\x01\x00\x00\x00\x00\x01\x00\x00\x01\x00\x00\x00";
@@ -36,10 +34,3 @@ pub(crate) const CANCEL_REQUEST: [u8; 16] =
 // Kind 15 (000 2.2.7.1): success, no output. Its RequestId starts at byte 12.
 pub(crate) const IO_CONTROL_COMPLETION: [u8; 28] =
     *b"\x05\x00\x00\x40\x01\x00\x00\x00\x00\x01\x00\x00\x00\x00\x00\x00\x00\x00\x00\x00\x00\x00\x00\x00\x00\x00\x00\x00";
-
-// Room for a message that is a byte too long.
-pub(crate) fn zeros() -> [u8; 65536]
-    ensures { 65536 ≡ length result }
-{
-    [0; 65536]
-}

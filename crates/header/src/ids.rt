@@ -1,27 +1,21 @@
 // Three numbers of the protocol that may never stand in for one another (01 "The gate's duties").
 //
-// Their fields are private, and each is made only by a reader, out of four bytes of a message at a place (docs/DECISIONS.md, 14).
+// Their fields are private, and each is made only by a reader, out of four bytes of a message at a place (docs/DECISIONS.md, 14). What a number is wanted of one for says so by `number`: a `From`
+// would let any of them go where a number is taken.
 ghost use Rattle.std.specs.Prelude.{◌≡◌};
 ghost use Rattle.words.specs.Words.{word_at};
 ghost use Rattle.header.specs.Ids.{assignable, interface_in, mask_in, message_in, request_in, urb_request_in, no_ack_in};
 
 use words::numbers::u32_at;
 
-#[derive(Clone, Copy)]
+#[derive(Clone, Copy, PartialEq, Eq)]
 pub struct InterfaceId(u32);
 
-#[derive(Clone, Copy)]
+#[derive(Clone, Copy, PartialEq, Eq)]
 pub struct MessageId(u32);
 
-#[derive(Clone, Copy)]
+#[derive(Clone, Copy, PartialEq, Eq)]
 pub struct RequestId(u32);
-
-// An interface id that a channel may have learnt: its device's, or its callback's.
-#[derive(Clone, Copy)]
-pub enum Known {
-    Nothing,
-    Is(InterfaceId),
-}
 
 impl InterfaceId {
     // The low 30 bits of a word that names an interface (000 2.2.1).

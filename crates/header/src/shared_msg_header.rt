@@ -18,21 +18,15 @@ pub struct Header {
     pub function: u32,
 }
 
-#[derive(Clone, Copy)]
-pub enum HeaderRead {
-    Short,
-    Is(Header),
-}
-
 // The header of a message of at least 12 bytes.
 #[tactic(auto, unfolding(crate::specs::Header::header_of))]
-pub fn read(m: &[u8]) -> HeaderRead
+pub fn read(m: &[u8]) -> Option<Header>
     ensures { result ≡ header_of m.now }
 {
     if m.len() < 12 {
-        return HeaderRead::Short;
+        return None;
     }
-    HeaderRead::Is(Header {
+    Some(Header {
         interface: InterfaceId::read(m, 0),
         mask: InterfaceId::mask(m, 0),
         message: MessageId::read(m, 4),

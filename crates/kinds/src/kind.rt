@@ -1,9 +1,9 @@
 // The kind of a message, by 01's table "Header and kinds": the first row that fits.
-ghost use Rattle.std.specs.Prelude.{◌≡◌};
-ghost use Rattle.kinds.specs.Kinds.{goes_to, calls_at, calls_known, first_fitting, kinds, kinds_from4, kinds_from13, kinds_from8, kinds_from10, kinds_from15};
+ghost use Rattle.std.specs.Prelude.{◌≡◌, find, option_copied, option_map};
+ghost use Rattle.kinds.specs.Kinds.{goes_to, calls_at, calls_known, fits, first_fitting, kinds};
 
 use answers::kind::Kind;
-use header::ids::Known;
+use header::ids::InterfaceId;
 use header::shared_msg_header::Header;
 use wire::add_device::AddDevice;
 use wire::add_virtual_channel::AddVirtualChannel;
@@ -22,12 +22,6 @@ use wire::urb_completion::UrbCompletion;
 use wire::urb_completion_no_data::UrbCompletionNoData;
 
 #[derive(Clone, Copy)]
-pub enum KindFound {
-    Nothing,
-    Is(Kind),
-}
-
-#[derive(Clone, Copy)]
 pub struct Side {}
 
 impl Side {
@@ -36,236 +30,210 @@ impl Side {
     pub const CLIENT: u8 = 2;
 }
 
-// Whether a message of a side goes to an interface, by the side and with the mask of a kind.
-fn goes_to(h: Header, side: u8, interface: u32, by: u8, mask: u32) -> bool
-    ensures { result ≡ goes_to h side interface by mask }
-{
-    if h.interface.number() != interface {
-        return false;
-    }
-    if side != by {
-        return false;
-    }
-    h.mask == mask
+// Where a kind's messages go: to a default interface, with a function or with none; to the device; to the callback.
+#[derive(Clone, Copy)]
+pub enum Goes {
+    Default(u32, u32),
+    Nameless(u32),
+    Device(u32),
+    Callback(u32),
 }
 
-// Whether it calls a function there.
-fn calls(h: Header, side: u8, interface: u32, by: u8, mask: u32, function: u32) -> bool
-    ensures { result ≡ calls_at h side interface by mask function }
-{
-    if !goes_to(h, side, interface, by, mask) {
-        return false;
-    }
-    h.function == function
+// A row of 01's table: the kind, the side that sends it, its mask, and where it goes.
+#[derive(Clone, Copy)]
+pub struct Row {
+    pub kind: Kind,
+    // a number, as the side that a call gives is any
+    pub by: u8,
+    pub mask: u32,
+    pub goes: Goes,
 }
 
-// The same where the interface is one that the channel has learnt, or has not.
-fn calls_known(h: Header, side: u8, known: Known, by: u8, mask: u32, function: u32) -> bool
-    ensures { result ≡ calls_known h side known by mask function }
-{
-    match known {
-        Known::Nothing => false,
-        Known::Is(id) => calls(h, side, id.number(), by, mask, function),
+// The rows in the order of 01's table, of which the first that fits is the kind.
+const KINDS: [Row; 16] = [
+    Row {
+        kind: Kind::CapabilityRequest,
+        by: Side::SERVER,
+        mask: CapabilityRequest::MASK,
+        goes: Goes::Default(CapabilityRequest::INTERFACE, CapabilityRequest::FUNCTION),
+    },
+    Row {
+        kind: Kind::CapabilityResponse,
+        by: Side::CLIENT,
+        mask: CapabilityResponse::MASK,
+        goes: Goes::Nameless(CapabilityResponse::INTERFACE),
+    },
+    Row {
+        kind: Kind::ChannelCreatedByServer,
+        by: Side::SERVER,
+        mask: ChannelCreated::MASK,
+        goes: Goes::Default(
+            ChannelCreated::INTERFACE_BY_SERVER,
+            ChannelCreated::FUNCTION,
+        ),
+    },
+    Row {
+        kind: Kind::ChannelCreatedByClient,
+        by: Side::CLIENT,
+        mask: ChannelCreated::MASK,
+        goes: Goes::Default(
+            ChannelCreated::INTERFACE_BY_CLIENT,
+            ChannelCreated::FUNCTION,
+        ),
+    },
+    Row {
+        kind: Kind::AddVirtualChannel,
+        by: Side::CLIENT,
+        mask: AddVirtualChannel::MASK,
+        goes: Goes::Default(AddVirtualChannel::INTERFACE, AddVirtualChannel::FUNCTION),
+    },
+    Row {
+        kind: Kind::AddDevice,
+        by: Side::CLIENT,
+        mask: AddDevice::MASK,
+        goes: Goes::Default(AddDevice::INTERFACE, AddDevice::FUNCTION),
+    },
+    Row {
+        kind: Kind::CancelRequest,
+        by: Side::SERVER,
+        mask: CancelRequest::MASK,
+        goes: Goes::Device(CancelRequest::FUNCTION),
+    },
+    Row {
+        kind: Kind::RegisterRequestCallback,
+        by: Side::SERVER,
+        mask: RegisterRequestCallback::MASK,
+        goes: Goes::Device(RegisterRequestCallback::FUNCTION),
+    },
+    Row {
+        kind: Kind::IoControl,
+        by: Side::SERVER,
+        mask: IoControl::MASK,
+        goes: Goes::Device(IoControl::FUNCTION),
+    },
+    Row {
+        kind: Kind::InternalIoControl,
+        by: Side::SERVER,
+        mask: InternalIoControl::MASK,
+        goes: Goes::Device(InternalIoControl::FUNCTION),
+    },
+    Row {
+        kind: Kind::TransferInRequest,
+        by: Side::SERVER,
+        mask: TransferInRequest::MASK,
+        goes: Goes::Device(TransferInRequest::FUNCTION),
+    },
+    Row {
+        kind: Kind::TransferOutRequest,
+        by: Side::SERVER,
+        mask: TransferOutRequest::MASK,
+        goes: Goes::Device(TransferOutRequest::FUNCTION),
+    },
+    Row {
+        kind: Kind::RetractDevice,
+        by: Side::SERVER,
+        mask: RetractDevice::MASK,
+        goes: Goes::Device(RetractDevice::FUNCTION),
+    },
+    Row {
+        kind: Kind::IoControlCompletion,
+        by: Side::CLIENT,
+        mask: IoControlCompletion::MASK,
+        goes: Goes::Callback(IoControlCompletion::FUNCTION),
+    },
+    Row {
+        kind: Kind::UrbCompletion,
+        by: Side::CLIENT,
+        mask: UrbCompletion::MASK,
+        goes: Goes::Callback(UrbCompletion::FUNCTION),
+    },
+    Row {
+        kind: Kind::UrbCompletionNoData,
+        by: Side::CLIENT,
+        mask: UrbCompletionNoData::MASK,
+        goes: Goes::Callback(UrbCompletionNoData::FUNCTION),
+    },
+];
+
+// What is asked of a row: a message's header and side, and the interfaces that its channel has learnt.
+#[derive(Clone, Copy)]
+struct Sent {
+    header: Header,
+    side: u8,
+    device: Option<InterfaceId>,
+    callback: Option<InterfaceId>,
+}
+
+impl Row {
+    // Whether a message goes to an interface, by the side and with the mask of the row.
+    fn goes_to(self, m: Sent, interface: u32) -> bool
+        ensures { result ≡ goes_to m.header m.side interface self.by self.mask }
+    {
+        m.header.interface.number() == interface && m.side == self.by && m.header.mask == self.mask
     }
+
+    // Whether it calls a function there.
+    fn calls(self, m: Sent, interface: u32, function: u32) -> bool
+        ensures { result ≡ calls_at m.header m.side interface self.by self.mask function }
+    {
+        self.goes_to(m, interface) && m.header.function == function
+    }
+
+    // The same where the interface is one that the channel has learnt, or has not.
+    fn calls_known(self, m: Sent, known: Option<InterfaceId>, function: u32) -> bool
+        ensures { result ≡ calls_known m.header m.side known self.by self.mask function }
+    {
+        match known {
+            None => false,
+            Some(id) => self.calls(m, id.number(), function),
+        }
+    }
+
+    fn fits(self, m: Sent) -> bool
+        ensures { result ≡ fits self m.header m.side m.device m.callback }
+    {
+        match self.goes {
+            Goes::Default(interface, function) => self.calls(m, interface, function),
+            Goes::Nameless(interface) => self.goes_to(m, interface),
+            Goes::Device(function) => self.calls_known(m, m.device, function),
+            Goes::Callback(function) => self.calls_known(m, m.callback, function),
+        }
+    }
+}
+
+fn rows() -> [Row; 16]
+    ensures { result ≡ kinds }
+{
+    KINDS
+}
+
+// The first row that a message fits.
+fn row_of(rows: &[Row], m: Sent) -> Option<&Row>
+    ensures { option_copied result ≡ find (λ r. fits r m.header m.side m.device m.callback) rows.now }
+{
+    rows.iter().find(|row| row.fits(m))
+}
+
+fn kind_in(row: Option<&Row>) -> Option<Kind>
+    ensures { result ≡ option_map (λ r. r.kind) (option_copied row.entry) }
+{
+    row.map(|row| row.kind)
 }
 
 // The kind of a message with this header, of this side, on a channel that knows these interfaces.
-pub fn kind_of(h: Header, side: u8, device: Known, callback: Known) -> KindFound
+pub fn kind_of(
+    h: Header,
+    side: u8,
+    device: Option<InterfaceId>,
+    callback: Option<InterfaceId>,
+) -> Option<Kind>
     ensures { result ≡ first_fitting kinds h side device callback }
 {
-    if calls(
-        h,
-        side,
-        CapabilityRequest::INTERFACE,
-        Side::SERVER,
-        CapabilityRequest::MASK,
-        CapabilityRequest::FUNCTION,
-    ) {
-        return KindFound::Is(Kind::CapabilityRequest);
-    }
-    if goes_to(
-        h,
-        side,
-        CapabilityResponse::INTERFACE,
-        Side::CLIENT,
-        CapabilityResponse::MASK,
-    ) {
-        return KindFound::Is(Kind::CapabilityResponse);
-    }
-    if calls(
-        h,
-        side,
-        ChannelCreated::INTERFACE_BY_SERVER,
-        Side::SERVER,
-        ChannelCreated::MASK,
-        ChannelCreated::FUNCTION,
-    ) {
-        return KindFound::Is(Kind::ChannelCreatedByServer);
-    }
-    client_kind(h, side, device, callback)
-}
-
-// The rows from 4 on: what the client says of the channel and of its device.
-fn client_kind(h: Header, side: u8, device: Known, callback: Known) -> KindFound
-    ensures { result ≡ first_fitting kinds_from4 h side device callback }
-{
-    if calls(
-        h,
-        side,
-        ChannelCreated::INTERFACE_BY_CLIENT,
-        Side::CLIENT,
-        ChannelCreated::MASK,
-        ChannelCreated::FUNCTION,
-    ) {
-        return KindFound::Is(Kind::ChannelCreatedByClient);
-    }
-    if calls(
-        h,
-        side,
-        AddVirtualChannel::INTERFACE,
-        Side::CLIENT,
-        AddVirtualChannel::MASK,
-        AddVirtualChannel::FUNCTION,
-    ) {
-        return KindFound::Is(Kind::AddVirtualChannel);
-    }
-    if calls(
-        h,
-        side,
-        AddDevice::INTERFACE,
-        Side::CLIENT,
-        AddDevice::MASK,
-        AddDevice::FUNCTION,
-    ) {
-        return KindFound::Is(Kind::AddDevice);
-    }
-    device_kind(h, side, device, callback)
-}
-
-// The rows from 13 on: what the server asks of the device.
-fn device_kind(h: Header, side: u8, device: Known, callback: Known) -> KindFound
-    ensures { result ≡ first_fitting kinds_from13 h side device callback }
-{
-    if calls_known(
-        h,
+    let sent = Sent {
+        header: h,
         side,
         device,
-        Side::SERVER,
-        CancelRequest::MASK,
-        CancelRequest::FUNCTION,
-    ) {
-        return KindFound::Is(Kind::CancelRequest);
-    }
-    if calls_known(
-        h,
-        side,
-        device,
-        Side::SERVER,
-        RegisterRequestCallback::MASK,
-        RegisterRequestCallback::FUNCTION,
-    ) {
-        return KindFound::Is(Kind::RegisterRequestCallback);
-    }
-    io_kind(h, side, device, callback)
-}
-
-// The rows from 8 on: I/O controls.
-fn io_kind(h: Header, side: u8, device: Known, callback: Known) -> KindFound
-    ensures { result ≡ first_fitting kinds_from8 h side device callback }
-{
-    if calls_known(
-        h,
-        side,
-        device,
-        Side::SERVER,
-        IoControl::MASK,
-        IoControl::FUNCTION,
-    ) {
-        return KindFound::Is(Kind::IoControl);
-    }
-    if calls_known(
-        h,
-        side,
-        device,
-        Side::SERVER,
-        InternalIoControl::MASK,
-        InternalIoControl::FUNCTION,
-    ) {
-        return KindFound::Is(Kind::InternalIoControl);
-    }
-    transfer_kind(h, side, device, callback)
-}
-
-// The rows from 10 on: transfers, and the retraction of the device.
-fn transfer_kind(h: Header, side: u8, device: Known, callback: Known) -> KindFound
-    ensures { result ≡ first_fitting kinds_from10 h side device callback }
-{
-    if calls_known(
-        h,
-        side,
-        device,
-        Side::SERVER,
-        TransferInRequest::MASK,
-        TransferInRequest::FUNCTION,
-    ) {
-        return KindFound::Is(Kind::TransferInRequest);
-    }
-    if calls_known(
-        h,
-        side,
-        device,
-        Side::SERVER,
-        TransferOutRequest::MASK,
-        TransferOutRequest::FUNCTION,
-    ) {
-        return KindFound::Is(Kind::TransferOutRequest);
-    }
-    if calls_known(
-        h,
-        side,
-        device,
-        Side::SERVER,
-        RetractDevice::MASK,
-        RetractDevice::FUNCTION,
-    ) {
-        return KindFound::Is(Kind::RetractDevice);
-    }
-    completion_kind(h, side, callback)
-}
-
-// The rows from 15 on: what the client answers through the callback.
-fn completion_kind(h: Header, side: u8, callback: Known) -> KindFound
-    ensures { result ≡ first_fitting kinds_from15 h side callback callback }
-{
-    if calls_known(
-        h,
-        side,
         callback,
-        Side::CLIENT,
-        IoControlCompletion::MASK,
-        IoControlCompletion::FUNCTION,
-    ) {
-        return KindFound::Is(Kind::IoControlCompletion);
-    }
-    if calls_known(
-        h,
-        side,
-        callback,
-        Side::CLIENT,
-        UrbCompletion::MASK,
-        UrbCompletion::FUNCTION,
-    ) {
-        return KindFound::Is(Kind::UrbCompletion);
-    }
-    if calls_known(
-        h,
-        side,
-        callback,
-        Side::CLIENT,
-        UrbCompletionNoData::MASK,
-        UrbCompletionNoData::FUNCTION,
-    ) {
-        return KindFound::Is(Kind::UrbCompletionNoData);
-    }
-    KindFound::Nothing
+    };
+    kind_in(row_of(&rows(), sent))
 }

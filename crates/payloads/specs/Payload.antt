@@ -1,17 +1,16 @@
 -- 01 "Payload": of an accepted message its input or output bytes, of all else the empty part; against the table before the message is judged.
-use Rattle.std.specs.Prelude.{ℕ, ◌+◌, ◌-◌, List, [], cond, length, take, drop, ltb}
+use Rattle.std.specs.Prelude.{ℕ, ◌+◌, ◌-◌, List, [], cond, length, take, drop, ltb, Ok, Err}
 use Rattle.words.specs.declared.layout.Part.{Part}
 use Rattle.wire.specs.Message.{empty_part}
-use Rattle.rules.specs.declared.verdict.Verdict.{Verdict}
-use Rattle.rules.specs.declared.verdict.Verdict.TheVariants.{Refused, Accepted}
 use Rattle.table.specs.Table.{channel_of}
 use Rattle.places.specs.Place.{no_place, used_up}
 use Rattle.turn.specs.Step.{verdict_of}
 use Rattle.table.specs.declared.table.Table.{Table}
+use Rattle.rules.specs.Verdict.{Verdict}
 
 abbrev pub shown_by : Verdict → Part
-shown_by (Refused kind a) = empty_part
-shown_by (Accepted a) = a.payload
+shown_by (Err r) = empty_part
+shown_by (Ok a) = a.payload
 
 -- where the payload lies
 unfoldable pub shown_of : Table → ℕ → ℕ → List ℕ → Part

@@ -3,17 +3,19 @@ ghost use Rattle.std.specs.Prelude.{◌≡◌};
 ghost use Rattle.payloads.specs.Payload.{behind, cut_of, payload_of, shown_by, shown_of, start_in, start_of};
 
 use places::place::{no_place, used_up};
-use rules::verdict::Verdict;
+use rules::verdict::{Accepted, Refusal};
 use table::table::Table;
 use turn::step;
 use words::layout::Part;
 
-fn of_verdict(verdict: Verdict) -> Part
+const NOTHING: Part = Part { start: 0, size: 0 };
+
+fn of_verdict(verdict: Result<Accepted, Refusal>) -> Part
     ensures { result ≡ shown_by verdict }
 {
     match verdict {
-        Verdict::Refused(_, _) => Part { start: 0, size: 0 },
-        Verdict::Accepted(a) => a.payload,
+        Err(_) => NOTHING,
+        Ok(a) => a.payload,
     }
 }
 
@@ -22,16 +24,11 @@ fn of_verdict(verdict: Verdict) -> Part
 fn shown(table: Table, channel: u8, side: u8, m: &[u8]) -> Part
     ensures { result ≡ shown_of table channel side m.now }
 {
-    let nothing = Part { start: 0, size: 0 };
-    let number = table.next;
-    if used_up(number) {
-        return nothing;
-    }
-    if no_place(channel, side) {
-        return nothing;
+    if used_up(table.next) || no_place(channel, side) {
+        return NOTHING;
     }
     let c = table.channels[channel as usize];
-    of_verdict(step::judge(c, number, side, m))
+    of_verdict(step::judge(c, table.next, side, m))
 }
 
 // The bytes of a part. A part that would reach beyond the message gives the empty part.
@@ -40,15 +37,10 @@ fn cut(m: &[u8], part: Part) -> &[u8]
     ensures bytes { result.now ≡ cut_of m.now part }
     ensures place { result.ref_ptr ≡ behind m.entry.ref_ptr (start_in m.now part) }
 {
-    if m.len() < part.start {
+    if m.len() < part.start || m.len() - part.start < part.size {
         return &m[0..0];
     }
-    if m.len() - part.start < part.size {
-        return &m[0..0];
-    }
-    let start = part.start;
-    let end = start + part.size;
-    &m[start..end]
+    &m[part.start..part.start + part.size]
 }
 
 // The payload of a message, against the table as it was before the message was judged. It uses no number.
@@ -57,6 +49,5 @@ pub fn payload(table: Table, channel: u8, side: u8, m: &[u8]) -> &[u8]
     ensures bytes { result.now ≡ payload_of table channel side m.now }
     ensures place { result.ref_ptr ≡ behind m.entry.ref_ptr (start_of table channel side m.now) }
 {
-    let part = shown(table, channel, side, m);
-    cut(m, part)
+    cut(m, shown(table, channel, side, m))
 }

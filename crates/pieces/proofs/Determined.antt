@@ -4,8 +4,8 @@ use contract.Lifetimes.{Lfts}
 use denote.Triple.Clauses.{AtExit}
 use borrow.Fn.Kinds.{Dens, res_t, ended_of}
 use Rattle.words.proofs.Determined.{Determined, same}
-use Rattle.pieces.proofs.piece.Written.number.Reads as number
-use Rattle.pieces.proofs.piece.Written.number.Kinds as number_kinds
+use Rattle.pieces.proofs.piece.number.Reads as number
+use Rattle.pieces.proofs.piece.number.Kinds as number_kinds
 use Rattle.pieces.proofs.piece.write.Reads as write
 use Rattle.pieces.proofs.piece.write.Kinds as write_kinds
 use Rattle.pieces.proofs.interface.write.Reads as interface_write

@@ -1,9 +1,9 @@
 -- One interface with its pipes, out of plain numbers in rows of three: NumberOfPipesExpected, InterfaceNumber, AlternateSetting; then of each pipe MaximumPacketSize, MaximumTransferSize,
 -- PipeFlags (000 2.2.9.1.2, 2.2.9.1.3).
-use Rattle.std.specs.Prelude.{ℕ, zero, suc, ◌+◌, ◌*◌, ◌-◌, ◌/◌, ◌%◌, List, [], ◌∷◌, ◌++◌, Bool, true, cond, ◌&&◌, length, drop, get_or, eqb, ltb, leb}
+use Rattle.std.specs.Prelude.{ℕ, zero, suc, ◌+◌, ◌*◌, ◌-◌, ◌/◌, ◌%◌, List, [], ◌∷◌, ◌++◌, Bool, true, cond, ◌&&◌, length, drop, get_or, eqb, ltb, leb, Result, Ok, Err}
 use Rattle.words.specs.Written.{word_bytes}
-use Rattle.pieces.specs.declared.piece.Written.{Written}
-use Rattle.pieces.specs.declared.piece.Written.TheVariants.{Whole, Value, Room}
+use Rattle.pieces.specs.declared.piece.Unwritten.{Unwritten}
+use Rattle.pieces.specs.declared.piece.Unwritten.TheVariants as unwritten
 
 -- MaximumPacketSize of so many pipes, the first of which starts at a number, has two bytes
 unfoldable pub narrow_from : List ℕ → ℕ → ℕ → Bool
@@ -33,5 +33,5 @@ interface_bytes ns =
     (word_bytes (length ns / 3 - 1) ++ numbers_bytes (drop 3 ns)))
 
 -- 15, then 16
-unfoldable pub interface_written : List ℕ → ℕ → Written
-interface_written ns room = cond (numbers_allowed ns) (cond (ltb room (4 * length ns)) Room (Whole (4 * length ns))) Value
+unfoldable pub interface_written : List ℕ → ℕ → Result ℕ Unwritten
+interface_written ns room = cond (numbers_allowed ns) (cond (ltb room (4 * length ns)) (Err unwritten.Room) (Ok (4 * length ns))) (Err unwritten.Value)

@@ -1,21 +1,19 @@
 -- The bytes of pieces, and what becomes of a buffer that they are written into (02 R-1).
-use Rattle.std.specs.Prelude.{ℕ, zero, suc, ◌+◌, ◌*◌, ◌-◌, ◌/◌, List, [], ◌∷◌, ◌++◌, Bool, true, false, cond, length, take, drop, eqb, ltb, leb}
+use Rattle.std.specs.Prelude.{ℕ, zero, suc, ◌+◌, ◌*◌, ◌-◌, ◌/◌, List, [], ◌∷◌, ◌++◌, Bool, true, false, cond, length, take, drop, eqb, ltb, leb, Option, Some, None, Result, Ok, Err}
 use Rattle.words.specs.Words.{half_at, word_at}
 use Rattle.words.specs.Written.{word_bytes}
 use Rattle.words.specs.declared.layout.Part.{Part}
 use Rattle.pieces.specs.declared.piece.Piece.{Piece}
 use Rattle.pieces.specs.declared.piece.Piece.TheVariants as piece
 use Rattle.pieces.specs.declared.piece.Row.{Row}
-use Rattle.pieces.specs.declared.piece.Total.{Total}
-use Rattle.pieces.specs.declared.piece.Total.TheVariants as total
-use Rattle.pieces.specs.declared.piece.Written.{Written}
-use Rattle.pieces.specs.declared.piece.Written.TheVariants.{Whole, Value, Room}
+use Rattle.pieces.specs.declared.piece.Unwritten.{Unwritten}
+use Rattle.pieces.specs.declared.piece.Unwritten.TheVariants as unwritten
 
 -- 02 R-1: the number of each answer
-abbrev pub written_number : Written → ℕ
-written_number (Whole n) = 0
-written_number Value = 15
-written_number Room = 16
+abbrev pub written_number : Result ℕ Unwritten → ℕ
+written_number (Ok n) = 0
+written_number (Err unwritten.Value) = 15
+written_number (Err unwritten.Room) = 16
 
 -- a part lies in n bytes
 abbrev pub lies_in : ℕ → Part → Bool
@@ -65,26 +63,26 @@ piece_lies n (piece.Run p) = lies_in n p
 piece_lies n (piece.Interfaces p) = lies_in n p
 
 -- what pieces add up to behind so many bytes: each part lies in the n lent bytes, and the sum is at most 65,535
-unfoldable pub total_from : ℕ → ℕ → List Piece → Total
-total_from n sum [] = total.Fits sum
+unfoldable pub total_from : ℕ → ℕ → List Piece → Option ℕ
+total_from n sum [] = Some sum
 total_from n sum (p ∷ ps) =
     cond (piece_lies n p)
-    (cond (ltb (65535 - sum) (size_of p)) total.Nothing (total_from n (sum + size_of p) ps))
-    total.Nothing
+    (cond (ltb (65535 - sum) (size_of p)) None (total_from n (sum + size_of p) ps))
+    None
 
 -- 15, then 16: the room is shorter than the message
-abbrev pub written_by : ℕ → Total → Written
-written_by room total.Nothing = Value
-written_by room (total.Fits n) = cond (ltb room n) Room (Whole n)
+abbrev pub written_by : ℕ → Option ℕ → Result ℕ Unwritten
+written_by room None = Err unwritten.Value
+written_by room (Some n) = cond (ltb room n) (Err unwritten.Room) (Ok n)
 
-unfoldable pub written_of : List ℕ → ℕ → List Piece → Written
+unfoldable pub written_of : List ℕ → ℕ → List Piece → Result ℕ Unwritten
 written_of s room ps = written_by room (total_from (length s) 0 ps)
 
 -- a refused call leaves the buffer as it was lent; else only the message's bytes change
-abbrev pub buffer_by : List ℕ → List ℕ → Written → List ℕ
-buffer_by bytes buf (Whole n) = bytes ++ drop n buf
-buffer_by bytes buf Value = buf
-buffer_by bytes buf Room = buf
+abbrev pub buffer_by : List ℕ → List ℕ → Result ℕ Unwritten → List ℕ
+buffer_by bytes buf (Ok n) = bytes ++ drop n buf
+buffer_by bytes buf (Err unwritten.Value) = buf
+buffer_by bytes buf (Err unwritten.Room) = buf
 
 unfoldable pub buffer_of : List ℕ → List Piece → List ℕ → List ℕ
 buffer_of s ps buf = buffer_by (encode s ps) buf (written_of s (length buf) ps)

@@ -1,9 +1,8 @@
 // What a message is written from: numbers of four bytes, and parts of bytes that the caller lends. A field of 000 that is narrower than four bytes stands beside
 // others, or beside padding, with which it makes up four.
-ghost use Rattle.std.specs.Prelude.{◌≡◌, ◌++◌, true, ◌+◌, ◌*◌, ◌≤◌, length, drop};
+ghost use Rattle.std.specs.Prelude.{◌≡◌, ◌++◌, true, ◌+◌, ◌*◌, ◌/◌, ◌≤◌, length, Some};
 ghost use Rattle.words.specs.Written.{written, word_bytes};
 ghost use Rattle.pieces.specs.Pieces.{buffer_of, bytes_of, cut, encode, rows_from, lies_in, piece_lies, row_bytes, row_of, size_of, total_from, written_number, written_of};
-ghost use Rattle.pieces.specs.declared.piece.Total.TheVariants as total;
 
 use words::layout::Part;
 use words::numbers::{u16_at, u32_at};
@@ -19,18 +18,9 @@ pub enum Piece {
     Interfaces(Part),
 }
 
-// How long a message is, where its parts lie in the lent bytes and it is not over 65,535 bytes.
-#[derive(Clone, Copy)]
-pub enum Total {
-    Nothing,
-    Fits(usize),
-}
-
-// What a writer answers.
-#[derive(Clone, Copy)]
-pub enum Written {
-    // the message is so long, and stands at the buffer's start
-    Whole(usize),
+// Why a writer writes nothing.
+#[derive(Clone, Copy, PartialEq, Eq)]
+pub enum Unwritten {
     // a field outside its values, or a message over 65,535 bytes
     Value,
     // the buffer is shorter than the message
@@ -46,26 +36,20 @@ pub struct Row {
     pub pipes: u32,
 }
 
-#[derive(Clone, Copy)]
-pub struct Pieces {}
+// As many pieces as ADD_DEVICE has, which has the most.
+pub const MOST: usize = 20;
 
-impl Pieces {
-    // as many as ADD_DEVICE has, which has the most
-    pub const MOST: usize = 20;
+// The longest message.
+pub const LONGEST: usize = 65535;
 
-    pub const LONGEST: usize = 65535;
-}
-
-impl Written {
-    // 02 R-1's number of the answer.
-    pub fn number(self) -> u32
-        ensures { result ≡ written_number self }
-    {
-        match self {
-            Written::Whole(_) => 0,
-            Written::Value => 15,
-            Written::Room => 16,
-        }
+// 02 R-1's number of the answer. A function and no `From`: no type in a Result is this crate's own, but for what it fails with.
+pub fn number(written: Result<usize, Unwritten>) -> u32
+    ensures { result ≡ written_number written }
+{
+    match written {
+        Ok(_) => 0,
+        Err(Unwritten::Value) => 15,
+        Err(Unwritten::Room) => 16,
     }
 }
 
@@ -84,44 +68,35 @@ fn size(p: Piece) -> usize
 fn lies(part: Part, n: usize) -> bool
     ensures { result ≡ lies_in n part }
 {
-    if n < part.start {
-        return false;
-    }
-    part.size <= n - part.start
+    part.start <= n && part.size <= n - part.start
 }
 
 fn piece_lies(p: Piece, n: usize) -> bool
     ensures { result ≡ piece_lies n p }
 {
     match p {
-        Piece::Nothing => true,
-        Piece::Word(_) => true,
-        Piece::Run(part) => lies(part, n),
-        Piece::Interfaces(part) => lies(part, n),
+        Piece::Nothing | Piece::Word(_) => true,
+        Piece::Run(part) | Piece::Interfaces(part) => lies(part, n),
     }
 }
 
 // What pieces add up to, whose parts are of n bytes.
-fn add_up(pieces: [Piece; 20], n: usize) -> Total
+#[tactic(auto, using(crate::proofs::Pieces::total_step, crate::proofs::Pieces::total_next, crate::proofs::Pieces::total_end))]
+fn add_up(pieces: [Piece; MOST], n: usize) -> Option<usize>
     ensures { result ≡ total_from n 0 pieces }
 {
     let mut sum: usize = 0;
-    let mut i: usize = 0;
-    while i < Pieces::MOST {
-        let p = pieces[i];
-        if !piece_lies(p, n) {
-            return Total::Nothing;
-        }
+    for p in pieces {
         let more = size(p);
-        if Pieces::LONGEST - sum < more {
-            return Total::Nothing;
+        if !piece_lies(p, n) || LONGEST - sum < more {
+            return None;
         }
         sum += more;
-        i += 1;
     }
-    Total::Fits(sum)
+    Some(sum)
 }
 
+#[tactic(auto, using(words::proofs::Written::written_four))]
 pub(crate) fn put_word(buf: &mut [u8], at: usize, n: usize)
     requires { at + 4 ≤ length buf.old }
     ensures { buf.new ≡ written buf.old at (word_bytes n) }
@@ -132,18 +107,23 @@ pub(crate) fn put_word(buf: &mut [u8], at: usize, n: usize)
     buf[at + 3] = (n / 16777216 % 256) as u8;
 }
 
+// Three words, one behind the other.
+pub(crate) fn put_words(buf: &mut [u8], at: usize, first: usize, second: usize, third: usize)
+    requires { at + 12 ≤ length buf.old }
+    ensures { buf.new ≡ written buf.old at (word_bytes first ++ (word_bytes second ++ word_bytes third)) }
+{
+    put_word(buf, at, first);
+    put_word(buf, at + 4, second);
+    put_word(buf, at + 8, third);
+}
+
+#[tactic(auto, using(crate::proofs::Pieces::run_put))]
 fn put_run(lent: &[u8], part: Part, buf: &mut [u8], at: usize)
     requires lent_holds { part.start + part.size ≤ length lent.now }
     requires buf_holds { at + part.size ≤ length buf.old }
     ensures { buf.new ≡ written buf.old at (cut lent.now part) }
 {
-    let start = part.start;
-    let n = part.size;
-    let mut i: usize = 0;
-    while i < n {
-        buf[at + i] = lent[start + i];
-        i += 1;
-    }
+    buf[at..at + part.size].copy_from_slice(&lent[part.start..part.start + part.size]);
 }
 
 // The row at a place, of an interface where no pipe is to come.
@@ -167,28 +147,25 @@ fn row_at(lent: &[u8], at: usize, pipes: u32) -> Row
     }
 }
 
-fn put_row(row: Row, buf: &mut [u8], at: usize)
-    requires { at + 12 ≤ length buf.old }
-    ensures { buf.new ≡ written buf.old at (row_bytes row) }
+// The rows of a part of the lent bytes.
+#[tactic(auto, using(crate::proofs::Pieces::rows_step, crate::proofs::Pieces::rows_end))]
+fn put_interfaces(lent: &[u8], part: Part, buf: &mut [u8], at: usize)
+    requires lent_holds { part.start + part.size ≤ length lent.now }
+    requires buf_holds { at + part.size / 12 * 12 ≤ length buf.old }
+    ensures { buf.new ≡ written buf.old at (rows_from lent.now (part.size / 12) 0 part.start) }
 {
-    put_word(buf, at, row.first as usize);
-    put_word(buf, at + 4, row.second as usize);
-    put_word(buf, at + 8, row.third as usize);
-}
-
-// So many rows from a place of the lent bytes on.
-fn put_interfaces(lent: &[u8], start: usize, rows: usize, buf: &mut [u8], at: usize)
-    requires lent_holds { start + 12 * rows ≤ length lent.now }
-    requires buf_holds { at + 12 * rows ≤ length buf.old }
-    ensures { buf.new ≡ written buf.old at (rows_from lent.now rows 0 start) }
-{
+    let rows = part.size / 12;
     let mut pipes: u32 = 0;
-    let mut i: usize = 0;
-    while i < rows {
-        let one = row_at(lent, start + 12 * i, pipes);
-        put_row(one, buf, at + 12 * i);
-        pipes = one.pipes;
-        i += 1;
+    for i in 0..rows {
+        let row = row_at(lent, part.start + 12 * i, pipes);
+        put_words(
+            buf,
+            at + 12 * i,
+            row.first as usize,
+            row.second as usize,
+            row.third as usize,
+        );
+        pipes = row.pipes;
     }
 }
 
@@ -202,37 +179,31 @@ fn put(p: Piece, lent: &[u8], buf: &mut [u8], at: usize)
         Piece::Nothing => {}
         Piece::Word(n) => put_word(buf, at, n),
         Piece::Run(part) => put_run(lent, part, buf, at),
-        Piece::Interfaces(part) => put_interfaces(lent, part.start, part.size / 12, buf, at),
+        Piece::Interfaces(part) => put_interfaces(lent, part, buf, at),
     }
 }
 
-fn put_all(pieces: [Piece; 20], lent: &[u8], buf: &mut [u8], n: usize)
-    requires fits { total_from (length lent.now) 0 pieces ≡ total.Fits n }
-    requires buf_holds { n ≤ length buf.old }
-    ensures { buf.new ≡ encode lent.now pieces ++ drop n buf.old }
+#[tactic(auto, using(crate::proofs::Pieces::total_at, crate::proofs::Pieces::all_end))]
+fn put_all(pieces: [Piece; MOST], lent: &[u8], buf: &mut [u8])
+    requires { total_from (length lent.now) 0 pieces ≡ Some (length buf.old) }
+    ensures { buf.new ≡ encode lent.now pieces }
 {
     let mut at: usize = 0;
-    let mut i: usize = 0;
-    while i < Pieces::MOST {
-        let p = pieces[i];
+    for p in pieces {
         put(p, lent, buf, at);
         at += size(p);
-        i += 1;
     }
 }
 
 // Writes pieces to a buffer's start, and says how long they are. The buffer stays as it was lent where they are refused, and behind them.
-pub fn write(pieces: [Piece; 20], lent: &[u8], buf: &mut [u8]) -> Written
+#[tactic(auto, unfolding(crate::specs::Pieces::written_of, crate::specs::Pieces::buffer_of))]
+pub fn write(pieces: [Piece; MOST], lent: &[u8], buf: &mut [u8]) -> Result<usize, Unwritten>
     ensures { (result ≡ written_of lent.now (length buf.old) pieces) × (buf.new ≡ buffer_of lent.now pieces buf.old) }
 {
-    match add_up(pieces, lent.len()) {
-        Total::Nothing => Written::Value,
-        Total::Fits(n) => {
-            if buf.len() < n {
-                return Written::Room;
-            }
-            put_all(pieces, lent, buf, n);
-            Written::Whole(n)
-        }
+    let n = add_up(pieces, lent.len()).ok_or(Unwritten::Value)?;
+    if buf.len() < n {
+        return Err(Unwritten::Room);
     }
+    put_all(pieces, lent, &mut buf[..n]);
+    Ok(n)
 }

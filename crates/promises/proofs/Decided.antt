@@ -1,5 +1,6 @@
 -- What holds of each verdict that the rules can give holds of what they decide. One law for each part of `decided`, for any P: all refusals are answered
 -- together, and what is accepted is asked for with what was found in the rows.
+use Rattle.std.specs.Prelude.{Option, Some, None, Ok, Err}
 use Prim.Native.Nat.{ℕ, ◌≤◌}
 use native.Mathlib.Omega.{arith}
 use mathlib.Core.Path.{◌≡◌, refl}
@@ -15,8 +16,6 @@ use Rattle.wire.specs.declared.message.UrbCompleted.{UrbCompleted}
 use Rattle.channel.specs.declared.row.Open.{Open}
 use Rattle.channel.specs.declared.row.Sort.{Sort}
 use Rattle.channel.specs.declared.row.Sort.TheVariants.{Out}
-use Rattle.rows.specs.declared.search.Found.{Found}
-use Rattle.rows.specs.declared.search.Found.TheVariants as found
 use Rattle.requests.specs.declared.open.Held.{Held}
 use Rattle.requests.specs.declared.open.Held.TheVariants as held
 use Rattle.answers.specs.Answer.{answer_number}
@@ -27,23 +26,22 @@ use Rattle.rules.specs.Request.{opened, taken, taken_at, transfer_out_decided}
 use Rattle.rules.specs.Cancel.{accepted_cancel, cancelled, marks}
 use Rattle.rules.specs.Completion.{closes, io_completed, no_data_completed, result_agrees, urb_closed, urb_completed}
 use Rattle.rules.specs.declared.verdict.Act.TheVariants.{Keep, Mark}
-use Rattle.rules.specs.declared.verdict.Verdict.{Verdict}
-use Rattle.rules.specs.declared.verdict.Verdict.TheVariants.{Refused, Accepted}
+use Rattle.rules.specs.Verdict.{Verdict, refusal_of}
 
-module _ (P : Verdict → Type 0) (k : Kind) (refuses : (a : Answer) → 7 ≤ answer_number a → P (Refused (kind_number k) a)) where
+module _ (P : Verdict → Type 0) (k : Kind) (refuses : (a : Answer) → 7 ≤ answer_number a → P (Err (refusal_of (kind_number k) a))) where
   -- a request takes the row that was found free, where nothing is open under its id
-  pub taken_has : (r : Request) (s : Sort) (here : Held) (free : Found) → ((at : ℕ) → here ≡ held.Nothing → P (taken_at k r s (found.At at))) → P (taken k r s here free)
+  pub taken_has : (r : Request) (s : Sort) (here : Held) (free : Option ℕ) → ((at : ℕ) → here ≡ held.Nothing → P (taken_at k r s (Some at))) → P (taken k r s here free)
   unfolding taken
-  taken_has r s held.Nothing (found.At at) h = h at refl
-  taken_has r s held.Nothing found.Nothing h = refuses Full (omega arith)
+  taken_has r s held.Nothing (Some at) h = h at refl
+  taken_has r s held.Nothing None h = refuses Full (omega arith)
   taken_has r s (held.Io at o) free h = refuses AlreadyOpen (omega arith)
   taken_has r s (held.In at o) free h = refuses AlreadyOpen (omega arith)
   taken_has r s (held.Out at o) free h = refuses AlreadyOpen (omega arith)
 
   -- a transfer out: with NoAck, or a request like others
-  pub out_has : (r : Request) (n jitter : ℕ) (here : Held) (free : Found)
-      → P (Accepted (record { kind = 12; request = r.request.0; cause = 0; size = r.size; payload = r.payload; phase = (phases_of k).after; act = Keep }))
-      → ((at : ℕ) → here ≡ held.Nothing → P (taken_at k r (Out (opened r n)) (found.At at))) → P (transfer_out_decided k r n jitter here free)
+  pub out_has : (r : Request) (n jitter : ℕ) (here : Held) (free : Option ℕ)
+      → P (Ok (record { kind = 12; request = r.request.0; cause = 0; size = r.size; payload = r.payload; phase = (phases_of k).after; act = Keep }))
+      → ((at : ℕ) → here ≡ held.Nothing → P (taken_at k r (Out (opened r n)) (Some at))) → P (transfer_out_decided k r n jitter here free)
   out_has r n jitter here free a h =
       either P r.noack _ _ (λ e. either P (eqb jitter 0) _ _ (λ f. refuses Value (omega arith)) (λ f. a)) (λ e. taken_has r (Out (opened r n)) here free h)
 

@@ -1,4 +1,5 @@
 -- Demand 1 of both calls.
+use Rattle.std.specs.Prelude.{Ok, Err}
 use Prim.Native.Nat.{ℕ, zero, suc, ◌+◌}
 use native.Mathlib.Omega.{arith}
 use mathlib.Core.Path.{◌≡◌, refl, ap}
@@ -9,8 +10,6 @@ use Rattle.words.proofs.Steps.{either}
 use Rattle.channel.specs.Rows.{new_channel}
 use Rattle.rows.specs.Search.{open_count}
 use Rattle.answers.specs.declared.answer.Answer.TheVariants as answer
-use Rattle.rules.specs.declared.verdict.Verdict.{Verdict}
-use Rattle.rules.specs.declared.verdict.Verdict.TheVariants.{Refused, Accepted}
 use Rattle.turn.specs.Step.{after_of, verdict_of}
 use Rattle.table.specs.Entry.{accepted_entry, answer_of, close_entry, judged_entry, refused_entry}
 use Rattle.table.specs.Table.{blank_channel, channel_of, close_of, judged_by, judge_of, moved, unnumbered, unplaced}
@@ -19,6 +18,7 @@ use Rattle.table.specs.declared.table.Table.{Table}
 use Rattle.journal.specs.Calls.{Asks, Call, called, called_by, closing, judging, side_by, stamp_by}
 use Rattle.promises.specs.Demand1.{Demand1}
 use Rattle.promises.proofs.Verdicts.{Proper, proper}
+use Rattle.rules.specs.Verdict.{Verdict}
 
 -- a list with what stands at a place put there again
 pub set_same : {A : Type 0} (l : List A) (i : ℕ) (d : A) → set l i (get_or l i d) ≡ l
@@ -55,11 +55,11 @@ module _ (t : Table) (x : Call) where
 
   said : (v : Verdict) → Proper v → Demand1 t x (judged_by t x.channel (side_by x.asks) (stamp_by x.asks) v)
   unfolding after_of answer_of judged_entry
-  said (Refused k a) h = record {
+  said (Err r) h = record {
     refusal_1 = λ e. let q = e in absurd (omega (arith, h.0));
     refusal = λ n p. ap (λ l. record { next = t.next + 1; channels = l }) (set_same t.channels x.channel blank_channel);
     entered = λ n. record {
-      entry = refused_entry t.next x.channel (side_by x.asks) (stamp_by x.asks) k a;
+      entry = refused_entry t.next x.channel (side_by x.asks) (stamp_by x.asks) r.kind r.answer;
       one = refl;
       number = refl;
       answer = refl;
@@ -71,7 +71,7 @@ module _ (t : Table) (x : Call) where
     };
     next = λ n. refl;
   }
-  said (Accepted a) h = record {
+  said (Ok a) h = record {
     refusal_1 = λ e. let q = e in absurd (omega arith);
     refusal = λ n p. absurd (p refl);
     entered = λ n. record {

@@ -1,4 +1,5 @@
 -- Demand 3 of the real calls, by the theory of `order`.
+use Rattle.std.specs.Prelude.{Option, Some, None}
 use Prim.Native.Nat.{ℕ, ◌+◌, ◌≤◌}
 use native.Mathlib.Omega.{arith}
 use mathlib.Core.Path.{◌≡◌, refl, sym, ap, ◌∙◌}
@@ -9,8 +10,6 @@ use lib.ListN.{get_or, length, length-map, get_or-map, replicate}
 use Rattle.channel.specs.Rows.{new_channel}
 use Rattle.channel.specs.declared.channel.Channel.{Channel}
 use Rattle.answers.specs.declared.entry.Entry.{Entry}
-use Rattle.answers.specs.declared.entry.Noted.{Noted}
-use Rattle.answers.specs.declared.entry.Noted.TheVariants.{Nothing, Is}
 use Rattle.table.specs.Table.{open_of}
 use Rattle.journal.specs.Calls.{after, Call}
 use Rattle.order.specs.Machine.{Given, given_on, gives, keep, ren_g}
@@ -50,9 +49,9 @@ ren_places f [] = refl
 ren_places f (c ∷ l) = ap (λ r. inside (ren_channel f c) ∷ r) (ren_places f l)
 
 -- the entries of what was done, with other numbers
-with_ren : (f : ℕ → ℕ) (n : Noted) (es : List Entry) → with_entry (ren_noted f n) (map (ren_entry f) es) ≡ map (ren_entry f) (with_entry n es)
-with_ren f Nothing es = refl
-with_ren f (Is e) es = refl
+with_ren : (f : ℕ → ℕ) (n : Option Entry) (es : List Entry) → with_entry (ren_noted f n) (map (ren_entry f) es) ≡ map (ren_entry f) (with_entry n es)
+with_ren f None es = refl
+with_ren f (Some e) es = refl
 
 entries_ren : (f : ℕ → ℕ) (ds : List Done) → entries_of (map (ren_done f) ds) ≡ map (ren_entry f) (entries_of ds)
 entries_ren f [] = refl

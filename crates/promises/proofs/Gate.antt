@@ -1,11 +1,10 @@
 -- The gate is a machine of `order`.
+use Rattle.std.specs.Prelude.{Ok, Err}
 use Prim.Native.Nat.{ℕ}
 use mathlib.Core.Path.{◌≡◌, refl, ap}
 use mathlib.Core.List.{List}
 use mathlib.Core.Bool.{Bool, true, false, cond}
 use Rattle.channel.specs.Rows.{new_channel}
-use Rattle.rules.specs.declared.verdict.Verdict.{Verdict}
-use Rattle.rules.specs.declared.verdict.Verdict.TheVariants.{Refused, Accepted}
 use Rattle.turn.specs.Step.{after_of, verdict_of}
 use Rattle.table.specs.Entry.{answer_of, judged_entry}
 use Rattle.places.specs.Place.{of_side}
@@ -15,6 +14,7 @@ use Rattle.promises.specs.Demand3.{ren_channel, ren_open}
 use Rattle.promises.specs.Gate.{gate_step, Gave, inside, outside, Place, ren_gave, ren_place, said_gave, unplaced_gave}
 use Rattle.promises.proofs.GateLaw.{after_ren, ren_verdict, verdict_ren}
 use Rattle.promises.proofs.InRow.{count_in, free_rows}
+use Rattle.rules.specs.Verdict.{Verdict}
 
 pub new_ren : (f : ℕ → ℕ) → ren_channel f new_channel ≡ new_channel
 new_ren f = rw (free_rows (ren_open f) 16)
@@ -25,8 +25,8 @@ stays n (closing stamp) = refl
 
 said_ren : (f : ℕ → ℕ) → f 0 ≡ 0 → (side stamp : ℕ) (m : List ℕ) (v : Verdict) → said_gave side stamp m (ren_verdict f v) ≡ ren_gave f (said_gave side stamp m v)
 unfolding answer_of judged_entry
-said_ren f z side stamp m (Refused k a) = rw z
-said_ren f z side stamp m (Accepted a) = refl
+said_ren f z side stamp m (Err r) = rw z
+said_ren f z side stamp m (Ok a) = refl
 
 by_side : (f : ℕ → ℕ) (b : Bool) (p q r s : Gave × Place) → p ≡ (ren_gave f r.0, ren_place f r.1) → q ≡ (ren_gave f s.0, ren_place f s.1)
     → cond b p q ≡ (ren_gave f (cond b r s).0, ren_place f (cond b r s).1)

@@ -1,4 +1,5 @@
 -- The gate stores journal numbers and hands them back, and does nothing else with them.
+use Rattle.std.specs.Prelude.{Option, Some, None, Result, Ok, Err}
 use Prim.Native.Nat.{ℕ}
 use mathlib.Core.Path.{◌≡◌, refl, ap, ◌∙◌}
 use mathlib.Core.List.{List, map}
@@ -7,15 +8,12 @@ use lib.ListN.{get_or, get_or-map}
 use lib.Dec.{eqb, ltb}
 use Rattle.header.specs.declared.ids.RequestId.{RequestId}
 use Rattle.answers.specs.declared.kind.Kind.{Kind}
-use Rattle.wire.specs.declared.message.Asked.{Asked}
 use Rattle.wire.specs.declared.message.Asked.TheVariants as asks
 use Rattle.wire.specs.declared.message.IoCompleted.{IoCompleted}
 use Rattle.wire.specs.declared.message.Request.{Request}
 use Rattle.wire.specs.declared.message.UrbCompleted.{UrbCompleted}
 use Rattle.channel.specs.Rows.{free_row, in_sort, marked_row, marked_open}
 use Rattle.channel.specs.declared.channel.Channel.{Channel}
-use Rattle.rows.specs.declared.search.Found.{Found}
-use Rattle.rows.specs.declared.search.Found.TheVariants as found
 use Rattle.requests.specs.declared.open.Held.{Held}
 use Rattle.requests.specs.declared.open.Held.TheVariants as held
 use Rattle.channel.specs.declared.row.Open.{Open}
@@ -29,30 +27,24 @@ use Rattle.rules.specs.Decide.{decided}
 use Rattle.rules.specs.declared.decide.Seen.{Seen}
 use Rattle.rules.specs.declared.verdict.Act.{Act}
 use Rattle.rules.specs.declared.verdict.Act.TheVariants as act
-use Rattle.rules.specs.declared.verdict.Verdict.{Verdict}
-use Rattle.rules.specs.declared.verdict.Verdict.TheVariants.{Refused, Accepted}
-use Rattle.turn.specs.Admit.{admitted}
+use Rattle.turn.specs.Admit.{Admitted, admitted}
 use Rattle.turn.specs.Step.{after_of, verdict_by, verdict_of}
 use Rattle.turn.specs.Store.{seen_of, stored}
-use Rattle.turn.specs.declared.admit.Admitted.{Admitted}
-use Rattle.turn.specs.declared.admit.Admitted.TheVariants as admit
 use Rattle.promises.specs.Demand3.{ren_channel, ren_open, ren_row}
 use Rattle.promises.proofs.InRow.{free_rows, in_held, in_seen, seen_in, set-map}
+use Rattle.wire.specs.declared.message.Asked.{Asked}
+use Rattle.wire.specs.declared.message.Unfit.{Unfit}
+use Rattle.wire.specs.declared.message.Unfit.TheVariants as unfit
+use Rattle.rules.specs.Verdict.{Verdict}
 
 -- ---- what is said of a message
 abbrev ren_act : (ℕ → ℕ) → Act → Act
-ren_act f act.Keep = act.Keep
-ren_act f (act.Device id ms) = act.Device id ms
-ren_act f (act.Callback k) = act.Callback k
 ren_act f (act.Take at row) = act.Take at (ren_row f row)
-ren_act f (act.Free at) = act.Free at
-ren_act f (act.Mark at) = act.Mark at
-ren_act f act.Empty = act.Empty
+ren_act f a = a
 
 abbrev pub ren_verdict : (ℕ → ℕ) → Verdict → Verdict
-ren_verdict f (Refused k a) = Refused k a
-ren_verdict f (Accepted a) =
-    Accepted (record { kind = a.kind; request = a.request; cause = f a.cause; size = a.size; payload = a.payload; phase = a.phase; act = ren_act f a.act })
+ren_verdict f (Err r) = Err r
+ren_verdict f (Ok a) = Ok (record a { cause = f a.cause; act = ren_act f a.act })
 
 -- a test that no number is part of
 through : (f : ℕ → ℕ) (b : Bool) (v w x y : Verdict) → v ≡ ren_verdict f x → w ≡ ren_verdict f y → cond b v w ≡ ren_verdict f (cond b x y)
@@ -60,15 +52,15 @@ through f true v w x y p q = p
 through f false v w x y p q = q
 
 module _ (f : ℕ → ℕ) (z : f 0 ≡ 0) where
-  taken_ren : (k : Kind) (r : Request) (s : Sort) (here : Held) (w : Found) → taken k r (in_sort (ren_open f) s) (in_held (ren_open f) here) w ≡ ren_verdict f (taken k r s here w)
+  taken_ren : (k : Kind) (r : Request) (s : Sort) (here : Held) (w : Option ℕ) → taken k r (in_sort (ren_open f) s) (in_held (ren_open f) here) w ≡ ren_verdict f (taken k r s here w)
   unfolding taken
-  taken_ren k r s held.Nothing (found.At at) = rw z
-  taken_ren k r s held.Nothing found.Nothing = refl
+  taken_ren k r s held.Nothing (Some at) = rw z
+  taken_ren k r s held.Nothing None = refl
   taken_ren k r s (held.Io at o) w = refl
   taken_ren k r s (held.In at o) w = refl
   taken_ren k r s (held.Out at o) w = refl
 
-  out_ren : (k : Kind) (r : Request) (n jitter : ℕ) (here : Held) (w : Found)
+  out_ren : (k : Kind) (r : Request) (n jitter : ℕ) (here : Held) (w : Option ℕ)
       → transfer_out_decided k r (f n) jitter (in_held (ren_open f) here) w ≡ ren_verdict f (transfer_out_decided k r n jitter here w)
   unfolding opened
   out_ren k r n jitter here w =
@@ -104,25 +96,25 @@ module _ (f : ℕ → ℕ) (z : f 0 ≡ 0) where
   cancelled_ren k id (held.In at o) = marks_ren k id at o
   cancelled_ren k id (held.Out at o) = marks_ren k id at o
 
-  decided_ren : (k : Kind) (a : Asked) (n jitter : ℕ) (s : Seen) → decided k a (f n) jitter (in_seen (ren_open f) s) ≡ ren_verdict f (decided k a n jitter s)
+  decided_ren : (k : Kind) (a : Result Asked Unfit) (n jitter : ℕ) (s : Seen) → decided k a (f n) jitter (in_seen (ren_open f) s) ≡ ren_verdict f (decided k a n jitter s)
   unfolding decided opened
-  decided_ren k (asks.Fails fault) n jitter s = refl
-  decided_ren k asks.Value n jitter s = refl
-  decided_ren k asks.Step n jitter s = rw z
-  decided_ren k (asks.Device id ms) n jitter s = rw z
-  decided_ren k (asks.Callback id) n jitter s = rw z
-  decided_ren k (asks.IoControl r) n jitter s = taken_ren k r (Io (opened r n)) s.here s.free
-  decided_ren k (asks.TransferIn r) n jitter s = taken_ren k r (In (opened r n)) s.here s.free
-  decided_ren k (asks.TransferOut r) n jitter s = out_ren k r n jitter s.here s.free
-  decided_ren k (asks.Cancel id) n jitter s = cancelled_ren k id s.here
-  decided_ren k asks.Retract n jitter s = rw z
-  decided_ren k (asks.IoCompletion d) n jitter s = io_ren k d s.here
-  decided_ren k (asks.UrbCompletion d) n jitter s = urb_ren k d s.here
-  decided_ren k (asks.UrbCompletionNoData d) n jitter s = no_data_ren k d s.here
+  decided_ren k (Err (unfit.Sizes fault)) n jitter s = refl
+  decided_ren k (Err unfit.Value) n jitter s = refl
+  decided_ren k (Ok asks.Step) n jitter s = rw z
+  decided_ren k (Ok (asks.Device id ms)) n jitter s = rw z
+  decided_ren k (Ok (asks.Callback id)) n jitter s = rw z
+  decided_ren k (Ok (asks.IoControl r)) n jitter s = taken_ren k r (Io (opened r n)) s.here s.free
+  decided_ren k (Ok (asks.TransferIn r)) n jitter s = taken_ren k r (In (opened r n)) s.here s.free
+  decided_ren k (Ok (asks.TransferOut r)) n jitter s = out_ren k r n jitter s.here s.free
+  decided_ren k (Ok (asks.Cancel id)) n jitter s = cancelled_ren k id s.here
+  decided_ren k (Ok asks.Retract) n jitter s = rw z
+  decided_ren k (Ok (asks.IoCompletion d)) n jitter s = io_ren k d s.here
+  decided_ren k (Ok (asks.UrbCompletion d)) n jitter s = urb_ren k d s.here
+  decided_ren k (Ok (asks.UrbCompletionNoData d)) n jitter s = no_data_ren k d s.here
 
   said_ren : (c : Channel) (n : ℕ) (a : Admitted) → verdict_by (ren_channel f c) (f n) a ≡ ren_verdict f (verdict_by c n a)
-  said_ren c n (admit.Refused k a) = refl
-  said_ren c n (admit.Asks k a) = ap (decided k a (f n) c.jitter) (seen_in (ren_open f) (λ o. refl) c a) ∙ decided_ren k a n c.jitter (seen_of c a)
+  said_ren c n (Err r) = refl
+  said_ren c n (Ok (k, a)) = ap (decided k a (f n) c.jitter) (seen_in (ren_open f) (λ o. refl) c a) ∙ decided_ren k a n c.jitter (seen_of c a)
 
   pub verdict_ren : (c : Channel) (n side : ℕ) (m : List ℕ) → verdict_of (ren_channel f c) (f n) side m ≡ ren_verdict f (verdict_of c n side m)
   unfolding verdict_of
@@ -151,5 +143,5 @@ acted_ren f c phase act.Empty = rw (free_rows (ren_open f) 16)
 
 pub after_ren : (f : ℕ → ℕ) (c : Channel) (v : Verdict) → after_of (ren_channel f c) (ren_verdict f v) ≡ ren_channel f (after_of c v)
 unfolding after_of
-after_ren f c (Refused k a) = refl
-after_ren f c (Accepted a) = acted_ren f c a.phase a.act
+after_ren f c (Err r) = refl
+after_ren f c (Ok a) = acted_ren f c a.phase a.act

@@ -1,4 +1,5 @@
 -- What is found in rows stays the same where their requests are changed and keep their ids; what was found there is changed with them.
+use Rattle.std.specs.Prelude.{Option, Some, None, Result, Ok, Err}
 use Prim.Native.Nat.{ℕ, zero, suc, ◌+◌}
 use mathlib.Core.Path.{◌≡◌, refl, ap, ◌∙◌}
 use mathlib.Core.List.{List, [], ◌∷◌, map}
@@ -6,7 +7,6 @@ use mathlib.Core.Bool.{Bool, not}
 use lib.ListN.{get_or, set, replicate, get_or-map}
 use lib.Dec.{eqb}
 use Rattle.header.specs.declared.ids.RequestId.{RequestId}
-use Rattle.wire.specs.declared.message.Asked.{Asked}
 use Rattle.wire.specs.declared.message.Asked.TheVariants as asks
 use Rattle.channel.specs.Rows.{free_row, in_channel, in_row, in_sort}
 use Rattle.channel.specs.declared.channel.Channel.{Channel}
@@ -15,13 +15,13 @@ use Rattle.channel.specs.declared.row.Row.{Row}
 use Rattle.channel.specs.declared.row.Sort.{Sort}
 use Rattle.channel.specs.declared.row.Sort.TheVariants.{Free, Io, In, Out}
 use Rattle.rows.specs.Search.{first_from, free, in_use, lowest_of, open_count, weight}
-use Rattle.rows.specs.declared.search.Found.{Found}
-use Rattle.rows.specs.declared.search.Found.TheVariants as found
 use Rattle.requests.specs.Held.{find_of, held_at, held_by, held_of, holds, holds_by}
 use Rattle.requests.specs.declared.open.Held.{Held}
 use Rattle.requests.specs.declared.open.Held.TheVariants as held
 use Rattle.rules.specs.declared.decide.Seen.{Seen}
 use Rattle.turn.specs.Store.{here_of, seen_of}
+use Rattle.wire.specs.declared.message.Asked.{Asked}
+use Rattle.wire.specs.declared.message.Unfit.{Unfit}
 
 abbrev pub in_held : (Open → Open) → Held → Held
 in_held f held.Nothing = held.Nothing
@@ -30,7 +30,7 @@ in_held f (held.In at o) = held.In at (f o)
 in_held f (held.Out at o) = held.Out at (f o)
 
 abbrev pub in_seen : (Open → Open) → Seen → Seen
-in_seen f s = record { here = in_held f s.here; free = s.free; count = s.count }
+in_seen f s = record s { here = in_held f s.here }
 
 -- ---- of lists
 pub set-map : {A B : Type 0} (g : A → B) (l : List A) (i : ℕ) (a : A) → set (map g l) i (g a) ≡ map g (set l i a)
@@ -76,9 +76,9 @@ module _ (f : Open → Open) (same : (o : Open) → (f o).request ≡ o.request)
   holds_in id (In o) = ap (λ (r : RequestId). eqb r.0 id.0) (same o)
   holds_in id (Out o) = ap (λ (r : RequestId). eqb r.0 id.0) (same o)
 
-  at_in : (rs : List Row) (w : Found) → held_at (map (in_row f) rs) w ≡ in_held f (held_at rs w)
-  at_in rs found.Nothing = refl
-  at_in rs (found.At at) = ap (λ r. held_by at r.sort) (get_or-map (in_row f) rs at free_row) ∙ by_in f at (get_or rs at free_row).sort
+  at_in : (rs : List Row) (w : Option ℕ) → held_at (map (in_row f) rs) w ≡ in_held f (held_at rs w)
+  at_in rs None = refl
+  at_in rs (Some at) = ap (λ r. held_by at r.sort) (get_or-map (in_row f) rs at free_row) ∙ by_in f at (get_or rs at free_row).sort
 
   held_in : (c : Channel) (id : RequestId) → held_of (in_channel f c) id ≡ in_held f (held_of c id)
   unfolding held_of
@@ -87,21 +87,20 @@ module _ (f : Open → Open) (same : (o : Open) → (f o).request ≡ o.request)
   lowest_in : (c : Channel) → lowest_of (in_channel f c) ≡ lowest_of c
   lowest_in c = first_map free (in_row f) (λ r. ap not (used_in f r.sort)) c.rows 0
 
-  here_in : (c : Channel) (a : Asked) → here_of (in_channel f c) a ≡ in_held f (here_of c a)
+  here_in : (c : Channel) (a : Result Asked Unfit) → here_of (in_channel f c) a ≡ in_held f (here_of c a)
   unfolding here_of
-  here_in c (asks.Fails fault) = refl
-  here_in c asks.Value = refl
-  here_in c asks.Step = refl
-  here_in c (asks.Device id ms) = refl
-  here_in c (asks.Callback id) = refl
-  here_in c (asks.IoControl r) = held_in c r.request
-  here_in c (asks.TransferIn r) = held_in c r.request
-  here_in c (asks.TransferOut r) = held_in c r.request
-  here_in c (asks.Cancel id) = held_in c id
-  here_in c asks.Retract = refl
-  here_in c (asks.IoCompletion d) = held_in c d.request
-  here_in c (asks.UrbCompletion d) = held_in c d.request
-  here_in c (asks.UrbCompletionNoData d) = held_in c d.request
+  here_in c (Err unfit) = refl
+  here_in c (Ok asks.Step) = refl
+  here_in c (Ok (asks.Device id ms)) = refl
+  here_in c (Ok (asks.Callback id)) = refl
+  here_in c (Ok (asks.IoControl r)) = held_in c r.request
+  here_in c (Ok (asks.TransferIn r)) = held_in c r.request
+  here_in c (Ok (asks.TransferOut r)) = held_in c r.request
+  here_in c (Ok (asks.Cancel id)) = held_in c id
+  here_in c (Ok asks.Retract) = refl
+  here_in c (Ok (asks.IoCompletion d)) = held_in c d.request
+  here_in c (Ok (asks.UrbCompletion d)) = held_in c d.request
+  here_in c (Ok (asks.UrbCompletionNoData d)) = held_in c d.request
 
-  pub seen_in : (c : Channel) (a : Asked) → seen_of (in_channel f c) a ≡ in_seen f (seen_of c a)
+  pub seen_in : (c : Channel) (a : Result Asked Unfit) → seen_of (in_channel f c) a ≡ in_seen f (seen_of c a)
   seen_in c a = rw (here_in c a, lowest_in c, count_in f c.rows)

@@ -1,4 +1,5 @@
 -- The entries of a run are its journal, and their numbers are the table's next and those behind it.
+use Rattle.std.specs.Prelude.{Option, Some, None}
 use Prim.Native.Nat.{ℕ, suc, ◌+◌, ◌≤◌}
 use native.Mathlib.Numerals.{add-one}
 use mathlib.Core.Path.{◌≡◌, refl, ap, subst, ◌∙◌}
@@ -9,8 +10,6 @@ use lib.ListN.{length}
 use borrow.Author.Tests.{eqb-false, eqb-true}
 use Rattle.answers.specs.Answer.{answer_number}
 use Rattle.answers.specs.declared.entry.Entry.{Entry}
-use Rattle.answers.specs.declared.entry.Noted.{Noted}
-use Rattle.answers.specs.declared.entry.Noted.TheVariants.{Nothing, Is}
 use Rattle.table.specs.Table.{open_of}
 use Rattle.table.specs.declared.table.Table.{Table}
 use Rattle.journal.specs.Calls.{Call, called}
@@ -25,9 +24,9 @@ use Rattle.promises.proofs.Gate.{gate}
 use Rattle.promises.proofs.Names.{all_name}
 use Rattle.promises.proofs.Runs.{done_of, run_is}
 
-in_front : (n : Noted) (es : List Entry) → joined [] n ++ es ≡ with_entry n es
-in_front Nothing es = refl
-in_front (Is e) es = refl
+in_front : (n : Option Entry) (es : List Entry) → joined [] n ++ es ≡ with_entry n es
+in_front None es = refl
+in_front (Some e) es = refl
 
 -- On every table: the journal of a run is the entries that its calls gave, in their order.
 pub journal_of_run : (t : Table) (xs : List Call) → journal_of t xs ≡ entries_of (run t xs)

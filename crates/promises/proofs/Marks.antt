@@ -1,4 +1,5 @@
 -- A mark decides nothing but the cause of a cancel, and marks.
+use Rattle.std.specs.Prelude.{Option, Some, Result, Ok, Err}
 use Prim.Native.Nat.{ℕ, zero, suc}
 use mathlib.Core.Path.{◌≡◌, refl, sym, ap, ◌∙◌}
 use mathlib.Core.List.{List, [], ◌∷◌, map}
@@ -8,11 +9,8 @@ use lib.ListN.{get_or, set, get_or-map}
 use Rattle.header.specs.declared.ids.RequestId.{RequestId}
 use Rattle.answers.specs.Kind.{kind_number}
 use Rattle.answers.specs.declared.answer.Answer.{Answer}
-use Rattle.answers.specs.declared.entry.Noted.{Noted}
-use Rattle.answers.specs.declared.entry.Noted.TheVariants.{Is}
 use Rattle.answers.specs.declared.kind.Kind.{Kind}
 use Rattle.wire.specs.Message.{asked_of, empty_part}
-use Rattle.wire.specs.declared.message.Asked.{Asked}
 use Rattle.wire.specs.declared.message.Asked.TheVariants as asks
 use Rattle.wire.specs.declared.message.IoCompleted.{IoCompleted}
 use Rattle.wire.specs.declared.message.Request.{Request}
@@ -24,7 +22,6 @@ use Rattle.channel.specs.declared.row.Row.{Row}
 use Rattle.channel.specs.declared.row.Sort.{Sort}
 use Rattle.channel.specs.declared.row.Sort.TheVariants.{Free, Io, In, Out}
 use Rattle.rows.specs.Search.{open_count}
-use Rattle.rows.specs.declared.search.Found.{Found}
 use Rattle.requests.specs.declared.open.Held.{Held}
 use Rattle.requests.specs.declared.open.Held.TheVariants as held
 use Rattle.rules.specs.Cancel.{accepted_cancel, cancelled, marks}
@@ -34,8 +31,6 @@ use Rattle.rules.specs.Request.{opened, taken, unacknowledged}
 use Rattle.rules.specs.declared.decide.Seen.{Seen}
 use Rattle.rules.specs.declared.verdict.Act.{Act}
 use Rattle.rules.specs.declared.verdict.Act.TheVariants as act
-use Rattle.rules.specs.declared.verdict.Verdict.{Verdict}
-use Rattle.rules.specs.declared.verdict.Verdict.TheVariants.{Refused, Accepted}
 use Rattle.turn.specs.Step.{after_of, verdict_by, verdict_of}
 use Rattle.turn.specs.Store.{seen_of, stored}
 use Rattle.table.specs.Entry.{answer_of, close_entry, judged_entry}
@@ -50,26 +45,26 @@ use Rattle.promises.specs.Marks.{but_marks, MarkBlind, uncaused, unmarked_open, 
 use Rattle.promises.proofs.Admitted.{admitted_has}
 use Rattle.promises.proofs.InRow.{count_in, in_held, in_seen, seen_in, set-map}
 use Rattle.promises.proofs.Kinded.{Kinded, kinded}
+use Rattle.answers.specs.declared.entry.Entry.{Entry}
+use Rattle.wire.specs.declared.message.Asked.{Asked}
+use Rattle.wire.specs.declared.message.Unfit.{Unfit}
+use Rattle.wire.specs.declared.message.Unfit.TheVariants as unfit
+use Rattle.rules.specs.Verdict.{Verdict}
 
 abbrev unmarked : Channel → Channel
 unmarked c = in_channel unmarked_open c
 
 -- ---- what is said of a message
 abbrev but_mark : Act → Act
-but_mark act.Keep = act.Keep
-but_mark (act.Device id ms) = act.Device id ms
-but_mark (act.Callback k) = act.Callback k
 but_mark (act.Take at row) = act.Take at (in_row unmarked_open row)
-but_mark (act.Free at) = act.Free at
 but_mark (act.Mark at) = act.Keep
-but_mark act.Empty = act.Empty
+but_mark a = a
 
 abbrev said : Verdict → Verdict
-said (Refused k a) = Refused k a
-said (Accepted a) =
-    Accepted (record { kind = a.kind; request = a.request; cause = cond (eqb a.kind 13) 0 a.cause; size = a.size; payload = a.payload; phase = a.phase; act = but_mark a.act })
+said (Err r) = Err r
+said (Ok a) = Ok (record a { cause = cond (eqb a.kind 13) 0 a.cause; act = but_mark a.act })
 
-taken_same : (k : Kind) (r : Request) (s : Sort) (here : Held) (w : Found) → taken k r s (in_held unmarked_open here) w ≡ taken k r s here w
+taken_same : (k : Kind) (r : Request) (s : Sort) (here : Held) (w : Option ℕ) → taken k r s (in_held unmarked_open here) w ≡ taken k r s here w
 unfolding taken
 taken_same k r s held.Nothing w = refl
 taken_same k r s (held.Io at o) w = refl
@@ -107,21 +102,21 @@ cancelled_same k id (held.Io at o) h = marks_same k id at o h
 cancelled_same k id (held.In at o) h = marks_same k id at o h
 cancelled_same k id (held.Out at o) h = marks_same k id at o h
 
-decided_same : (k : Kind) (a : Asked) (n jitter : ℕ) (s : Seen) → Kinded (kind_number k) a → said (decided k a n jitter (in_seen unmarked_open s)) ≡ said (decided k a n jitter s)
+decided_same : (k : Kind) (a : Result Asked Unfit) (n jitter : ℕ) (s : Seen) → Kinded (kind_number k) a → said (decided k a n jitter (in_seen unmarked_open s)) ≡ said (decided k a n jitter s)
 unfolding decided
-decided_same k (asks.Fails fault) n jitter s h = refl
-decided_same k asks.Value n jitter s h = refl
-decided_same k asks.Step n jitter s h = refl
-decided_same k (asks.Device id ms) n jitter s h = refl
-decided_same k (asks.Callback id) n jitter s h = refl
-decided_same k (asks.IoControl r) n jitter s h = ap said (taken_same k r (Io (opened r n)) s.here s.free)
-decided_same k (asks.TransferIn r) n jitter s h = ap said (taken_same k r (In (opened r n)) s.here s.free)
-decided_same k (asks.TransferOut r) n jitter s h = ap (λ v. said (cond r.noack (unacknowledged k r jitter) v)) (taken_same k r (Out (opened r n)) s.here s.free)
-decided_same k (asks.Cancel id) n jitter s h = cancelled_same k id s.here h
-decided_same k asks.Retract n jitter s h = refl
-decided_same k (asks.IoCompletion d) n jitter s h = ap said (io_same k d s.here)
-decided_same k (asks.UrbCompletion d) n jitter s h = ap said (urb_same k d s.here)
-decided_same k (asks.UrbCompletionNoData d) n jitter s h = ap said (no_data_same k d s.here)
+decided_same k (Err (unfit.Sizes fault)) n jitter s h = refl
+decided_same k (Err unfit.Value) n jitter s h = refl
+decided_same k (Ok asks.Step) n jitter s h = refl
+decided_same k (Ok (asks.Device id ms)) n jitter s h = refl
+decided_same k (Ok (asks.Callback id)) n jitter s h = refl
+decided_same k (Ok (asks.IoControl r)) n jitter s h = ap said (taken_same k r (Io (opened r n)) s.here s.free)
+decided_same k (Ok (asks.TransferIn r)) n jitter s h = ap said (taken_same k r (In (opened r n)) s.here s.free)
+decided_same k (Ok (asks.TransferOut r)) n jitter s h = ap (λ v. said (cond r.noack (unacknowledged k r jitter) v)) (taken_same k r (Out (opened r n)) s.here s.free)
+decided_same k (Ok (asks.Cancel id)) n jitter s h = cancelled_same k id s.here h
+decided_same k (Ok asks.Retract) n jitter s h = refl
+decided_same k (Ok (asks.IoCompletion d)) n jitter s h = ap said (io_same k d s.here)
+decided_same k (Ok (asks.UrbCompletion d)) n jitter s h = ap said (urb_same k d s.here)
+decided_same k (Ok (asks.UrbCompletionNoData d)) n jitter s h = ap said (no_data_same k d s.here)
 
 verdict_same : (c : Channel) (n side : ℕ) (m : List ℕ) → said (verdict_of (unmarked c) n side m) ≡ said (verdict_of c n side m)
 unfolding verdict_of
@@ -177,8 +172,8 @@ acted_same c phase act.Empty = refl
 
 after_said : (c : Channel) (v : Verdict) → unmarked (after_of (unmarked c) (said v)) ≡ unmarked (after_of c v)
 unfolding after_of
-after_said c (Refused k a) = channel_twice c
-after_said c (Accepted a) = acted_same c a.phase a.act
+after_said c (Err r) = channel_twice c
+after_said c (Ok a) = acted_same c a.phase a.act
 
 -- two verdicts that say the same but for marks, on a channel without its marks and on the channel itself
 after_same : (c : Channel) (v w : Verdict) → said v ≡ said w → unmarked (after_of (unmarked c) v) ≡ unmarked (after_of c w)
@@ -191,12 +186,12 @@ after_same c v w e =
 -- ---- what a call gives
 answer_said : (v : Verdict) → answer_of (said v) ≡ answer_of v
 unfolding answer_of
-answer_said (Refused k a) = refl
-answer_said (Accepted a) = refl
+answer_said (Err r) = refl
+answer_said (Ok a) = refl
 
 shown_said : (v : Verdict) → shown_by (said v) ≡ shown_by v
-shown_said (Refused k a) = refl
-shown_said (Accepted a) = refl
+shown_said (Err r) = refl
+shown_said (Ok a) = refl
 
 none_twice : (b : Bool) (n : ℕ) → cond b 0 (cond b 0 n) ≡ cond b 0 n
 none_twice true n = refl
@@ -204,12 +199,12 @@ none_twice false n = refl
 
 entry_said : (n ch side stamp : ℕ) (v : Verdict) → uncaused (judged_entry n ch side stamp (said v)) ≡ uncaused (judged_entry n ch side stamp v)
 unfolding judged_entry
-entry_said n ch side stamp (Refused k a) = refl
-entry_said n ch side stamp (Accepted a) =
+entry_said n ch side stamp (Err r) = refl
+entry_said n ch side stamp (Ok a) =
     ap (λ (x : ℕ). record { number = n; channel = ch; side = side; kind = a.kind; answer = 0; request = a.request; cause = x; size = a.size; stamp = stamp })
     (none_twice (eqb a.kind 13) a.cause)
 
-glue : (a b : Answer) (d e : Noted) (t u : Table) → a ≡ b → d ≡ e → t ≡ u → ◌≡◌ {A = Judged} (record { answer = a; entry = d; table = t }) (record { answer = b; entry = e; table = u })
+glue : (a b : Answer) (d e : Option Entry) (t u : Table) → a ≡ b → d ≡ e → t ≡ u → ◌≡◌ {A = Judged} (record { answer = a; entry = d; table = t }) (record { answer = b; entry = e; table = u })
 glue a b d e t u p q r = rw (p, q, r)
 
 channel_there : (t : Table) (ch : ℕ) → channel_of (unmarked_table t) ch ≡ unmarked (channel_of t ch)
@@ -237,7 +232,7 @@ judged_same : (t : Table) (ch side stamp : ℕ) (v w : Verdict) → said v ≡ s
 judged_same t ch side stamp v w e =
     glue _ _ _ _ _ _
     (sym (answer_said v) ∙ ap answer_of e ∙ answer_said w)
-    (ap Is (sym (entry_said t.next ch side stamp v) ∙ ap (λ x. uncaused (judged_entry t.next ch side stamp x)) e ∙ entry_said t.next ch side stamp w))
+    (ap Some (sym (entry_said t.next ch side stamp v) ∙ ap (λ x. uncaused (judged_entry t.next ch side stamp x)) e ∙ entry_said t.next ch side stamp w))
     (put_same t ch _ _ (ap (λ c. unmarked (after_of c v)) (channel_there t ch) ∙ after_same (channel_of t ch) v w e))
 
 by_call : (t : Table) (ch : ℕ) (a : Asks) → but_marks (called_by (unmarked_table t) ch a) ≡ but_marks (called_by t ch a)
@@ -250,7 +245,7 @@ by_call t ch (closing stamp) =
     through (used_up t.next) _ _ _ _ (glue _ _ _ _ _ _ refl refl (table_twice t.next t.channels))
     (through (ltb 7 ch) _ _ _ _ (glue _ _ _ _ _ _ refl refl (table_twice (numbered t).next t.channels))
     (glue _ _ _ _ _ _ refl
-    (ap (λ n. Is (close_entry t.next ch stamp n)) (ap (λ (c : Channel). open_count c.rows) (channel_there t ch) ∙ count_in unmarked_open (channel_of t ch).rows))
+    (ap (λ n. Some (close_entry t.next ch stamp n)) (ap (λ (c : Channel). open_count c.rows) (channel_there t ch) ∙ count_in unmarked_open (channel_of t ch).rows))
     (put_same t ch new_channel new_channel refl)))
 
 by_shown : (t : Table) (ch side : ℕ) (m : List ℕ) → shown_of (unmarked_table t) ch side m ≡ shown_of t ch side m

@@ -1,10 +1,11 @@
 -- In every journal from a new table, each accepted completion names one earlier accepted request of its channel; of those that name one request at most one is a cancel and at most one a completion.
+use Rattle.std.specs.Prelude.{Some, None, Ok, Err}
 use Prim.Native.Nat.{ℕ, zero, suc, ◌+◌, ◌<◌, ◌≤◌}
 use native.Mathlib.Omega.{arith}
 use mathlib.Core.Path.{◌≡◌, refl, sym, ap, subst, ◌∙◌}
 use mathlib.Core.Logic.{◌⊎◌, inl, inr, ◌≢◌}
 use mathlib.Core.List.{List, [], ◌∷◌, ◌++◌}
-use mathlib.Core.Bool.{Bool, true, false, not, true≢false, ◌||◌}
+use mathlib.Core.Bool.{Bool, true, false, true≢false}
 use lib.ListN.{get_or, length, replicate, set}
 use lib.Seq.{get_or-set_same}
 use lib.Dec.{eqb, ltb}
@@ -22,15 +23,13 @@ use Rattle.answers.specs.declared.answer.Answer.TheVariants as answer
 use Rattle.rules.specs.declared.verdict.Accepted.{Accepted}
 use Rattle.rules.specs.declared.verdict.Act.{Act}
 use Rattle.rules.specs.declared.verdict.Act.TheVariants as act
-use Rattle.rules.specs.declared.verdict.Verdict.{Verdict}
-use Rattle.rules.specs.declared.verdict.Verdict.TheVariants as verdict
 use Rattle.turn.specs.Step.{after_of, verdict_of}
 use Rattle.turn.specs.Store.{stored}
 use Rattle.table.specs.Entry.{accepted_entry, answer_of, close_entry, judged_entry, refused_entry}
 use Rattle.table.specs.Table.{blank_channel, channel_of, close_of, judged_by, judge_of, moved, open_of, unplaced}
-use Rattle.places.specs.Place.{no_place, of_side, used_up}
+use Rattle.places.specs.Place.{no_place, used_up}
+use Rattle.places.proofs.Steps.{placed}
 use Rattle.answers.specs.declared.entry.Entry.{Entry}
-use Rattle.answers.specs.declared.entry.Noted.TheVariants.{Nothing, Is}
 use Rattle.table.specs.declared.table.Judged.{Judged}
 use Rattle.table.specs.declared.table.Table.{Table}
 use Rattle.journal.specs.Calls.{Asks, Call, called, called_by, closing, judging}
@@ -40,11 +39,12 @@ use Rattle.promises.specs.Names.{AllName, Cancel, Completion, Names, Withdraws}
 use Rattle.promises.specs.Sound.{row_of, Sound, Used}
 use Rattle.promises.proofs.Demand1.{set_same}
 use Rattle.promises.proofs.Kinded.{NoCompletion, Quiet}
-use Rattle.promises.proofs.Sound.{sound_call, sound_open}
+use Rattle.promises.proofs.Sound.{sound_call, sound_open, usable}
 use Rattle.promises.proofs.Story.{kind_for, open_is, Opens, Picks, Story, story, Tells}
 use Rattle.promises.proofs.Story.{Is as Holds}
 use Rattle.promises.proofs.Verdicts.{Proper, proper}
 use Rattle.promises.proofs.Kept.{as_was, Backed, changed_there, From, Kept, length_put, less, names_none, Newly, one_more, put, row_set, row_used, row_in, sub}
+use Rattle.rules.specs.Verdict.{Verdict}
 
 -- ---- what a row holds
 -- a marked row holds its request, with the mark, and is for the same kinds
@@ -243,7 +243,7 @@ module _ (h : List Entry) (t : Table) (ch side stamp : ℕ) (k : Kept h t) (s : 
 -- ---- every call
 -- what a call leaves: no entry and the same table, or an entry that names as it should
 abbrev Well : List Entry → Judged → Type 0
-Well h j = ((j.entry ≡ Nothing) × Kept h j.table) ⊎ ((e : Entry) × ((j.entry ≡ Is e) × Names h e × Kept (e ∷ h) j.table))
+Well h j = ((j.entry ≡ None) × Kept h j.table) ⊎ ((e : Entry) × ((j.entry ≡ Some e) × Names h e × Kept (e ∷ h) j.table))
 
 -- a refused entry, and rows that are as they were
 still : (h : List Entry) (e : Entry) (t u : Table) → Kept h t → Sound t → e.answer ≢ 0 → e.number ≡ t.next → e.cause ≡ 0 → u.next ≡ t.next + 1 → u.channels ≡ t.channels → Kept (e ∷ h) u
@@ -256,9 +256,9 @@ still h e t u k s ref num c n l =
 said_well : (h : List Entry) (t : Table) (ch side stamp : ℕ) → Kept h t → Sound t → 1 ≤ t.next → ch < 8
     → (v : Verdict) → Proper v → Story (channel_of t ch) t.next v → Well h (judged_by t ch side stamp v)
 unfolding after_of answer_of judged_entry
-said_well h t ch side stamp k s one low (verdict.Refused kind a) p w =
-    inr (refused_entry t.next ch side stamp kind a, (refl, names_none h _ refl (λ z. absurd (omega (arith, z, p.0))), still h _ t _ k s (λ z. absurd (omega (arith, z, p.0))) refl refl refl (set_same t.channels ch blank_channel)))
-said_well h t ch side stamp k s one low (verdict.Accepted a) p w =
+said_well h t ch side stamp k s one low (Err r) p w =
+    inr (refused_entry t.next ch side stamp r.kind r.answer, (refl, names_none h _ refl (λ z. absurd (omega (arith, z, p.0))), still h _ t _ k s (λ z. absurd (omega (arith, z, p.0))) refl refl refl (set_same t.channels ch blank_channel)))
+said_well h t ch side stamp k s one low (Ok a) p w =
     let f = by_act h t ch side stamp k s one low a a.act w in
     inr (accepted_entry t.next ch side stamp a, (refl, f.0, f.1))
 
@@ -283,19 +283,12 @@ closed_well h t ch stamp k s low =
     same : (d i : ℕ) (o : Open) → Holds (row_in (put t ch new_channel) d i).sort o → (row_in (put t ch new_channel) d i).sort ≡ (row_in t d i).sort
     same = sub t ch new_channel (λ i o p. absurd (no_row i o p))
 
-either_false : (a b : Bool) → (a || b) ≡ false → a ≡ false
-either_false true b e = e
-either_false false b e = refl
-
 by_call : (h : List Entry) (t : Table) (ch : ℕ) (a : Asks) → Kept h t → Sound t → Well h (called_by t ch a)
 unfolding judge_of close_of
 by_call h t ch (judging side stamp m) k s =
     either (Well h) (used_up t.next) _ _ (λ z. inl (refl, k))
     (λ z. either (Well h) (no_place ch side) _ _ (λ y. unplaced_well h t ch side stamp k s)
-    (λ y.
-    let c = ltb-false 7 ch (either_false (ltb 7 ch) (not (of_side side)) y) in
-    let n = eqb-false t.next 0 (either_false (eqb t.next 0) (eqb t.next 4294967295) z) in
-    said_well h t ch side stamp k s (omega (arith, n)) (omega arith) (verdict_of (channel_of t ch) t.next side m) (proper (channel_of t ch) t.next side m) (story (channel_of t ch) t.next side m)))
+    (λ y. said_well h t ch side stamp k s (usable t.next z) (placed ch side (no_place ch side) refl y) (verdict_of (channel_of t ch) t.next side m) (proper (channel_of t ch) t.next side m) (story (channel_of t ch) t.next side m)))
 by_call h t ch (closing stamp) k s =
     either (Well h) (used_up t.next) _ _ (λ z. inl (refl, k))
     (λ z. either (Well h) (ltb 7 ch) _ _ (λ y. unplaced_well h t ch 3 stamp k s) (λ y. let c = ltb-false 7 ch y in closed_well h t ch stamp k s (omega arith)))

@@ -1,4 +1,5 @@
 -- Within the limit of the numbers, a run of the real calls is a run of the gate's machine.
+use Rattle.std.specs.Prelude.{Some, Ok, Err}
 use Prim.Native.Nat.{ℕ, zero, suc, ◌+◌, ◌-◌, ◌<◌, ◌≤◌}
 use native.Mathlib.Omega.{arith}
 use native.Mathlib.Numerals.{add-one}
@@ -12,29 +13,27 @@ use borrow.Author.Tests.{le-ltb, lt-ltb, ltb-false, ltb-true, ne_eqb}
 use Rattle.wire.specs.Message.{empty_part}
 use Rattle.channel.specs.Rows.{new_channel}
 use Rattle.channel.specs.declared.channel.Channel.{Channel}
-use Rattle.rules.specs.declared.verdict.Verdict.{Verdict}
-use Rattle.rules.specs.declared.verdict.Verdict.TheVariants.{Refused, Accepted}
 use Rattle.turn.specs.Step.{after_of, verdict_of}
 use Rattle.table.specs.Entry.{answer_of, judged_entry}
 use Rattle.payloads.specs.Payload.{cut_of, payload_of, shown_by, shown_of, start_in, start_of}
 use Rattle.table.specs.Table.{blank_channel, channel_of, close_of, judge_of}
 use Rattle.places.specs.Place.{of_side, used_up}
 use Rattle.answers.specs.declared.entry.Entry.{Entry}
-use Rattle.answers.specs.declared.entry.Noted.TheVariants.{Is}
 use Rattle.table.specs.declared.table.Table.{Table}
 use Rattle.journal.specs.Calls.{after, Asks, Call, called, called_by, closing, judging}
 use Rattle.order.specs.Machine.{Given, ends, gives}
 use Rattle.promises.specs.Gate.{gate_step, Gave, inside, outside, Place, said_gave}
 use Rattle.promises.specs.Demand3.{Done, done_by, run, tagged}
 use Rattle.promises.proofs.Gate.{gate}
+use Rattle.rules.specs.Verdict.{Verdict}
 
 -- a call of the machine's run, as the real one gives it: the entry gets its number and its channel
 abbrev pub entry_of : Given Gave → Entry
 entry_of g =
-    record { number = g.number; channel = g.chan; side = g.out.entry.side; kind = g.out.entry.kind; answer = g.out.entry.answer; request = g.out.entry.request; cause = g.out.entry.cause; size = g.out.entry.size; stamp = g.out.entry.stamp }
+    record g.out.entry { number = g.number; channel = g.chan }
 
 abbrev pub done_of : Given Gave → Done
-done_of g = record { channel = g.chan; answer = g.out.answer; entry = Is (entry_of g); payload = g.out.payload; start = g.out.start }
+done_of g = record { channel = g.chan; answer = g.out.answer; entry = Some (entry_of g); payload = g.out.payload; start = g.out.start }
 
 abbrev places : Table → List Place
 places t = map inside t.channels
@@ -90,8 +89,8 @@ set_same (x ∷ l) (suc i) s e h = ap (λ r. x ∷ r) (set_same l i s e (omega a
 -- the entry of a judged message, from what the machine says of it
 entry_as : (n channel side stamp : ℕ) (m : List ℕ) (v : Verdict) → judged_entry n channel side stamp v ≡ entry_of (record { number = n; chan = channel; out = said_gave side stamp m v })
 unfolding judged_entry
-entry_as n channel side stamp m (Refused k a) = refl
-entry_as n channel side stamp m (Accepted a) = refl
+entry_as n channel side stamp m (Err r) = refl
+entry_as n channel side stamp m (Ok a) = refl
 
 -- a call on one of the 8, by the tests of the two
 tied_inside : (t : Table) (channel : ℕ) (a : Asks) → used_up t.next ≡ false → length t.channels ≡ 8 → channel < 8 → Tied t channel a (inside (channel_of t channel))
@@ -109,7 +108,7 @@ tied_inside t channel (judging side stamp m) u l h = go (of_side side) refl
 
     go : (o : Bool) → of_side side ≡ o → Tied t channel (judging side stamp m) (inside (channel_of t channel))
     go true o = record {
-      done = rw (u, b, o) (ap (λ (e : Entry). record { channel = channel; answer = answer_of w; entry = Is e; payload = cut_of m (shown_by w); start = start_in m (shown_by w) }) (entry_as t.next channel side stamp m w));
+      done = rw (u, b, o) (ap (λ (e : Entry). record { channel = channel; answer = answer_of w; entry = Some e; payload = cut_of m (shown_by w); start = start_in m (shown_by w) }) (entry_as t.next channel side stamp m w));
       next = rw (u, b, o);
       size = rw (u, b, o, length-set);
       table = rw (u, b, o) (map-set t.channels channel (after_of (channel_of t channel) w));

@@ -1,4 +1,5 @@
 -- Every table that is reached from a new one is sound.
+use Rattle.std.specs.Prelude.{Some, Result, Ok, Err}
 use Prim.Native.Nat.{ℕ, zero, suc, ◌+◌, ◌≤◌}
 use native.Mathlib.Omega.{arith}
 use mathlib.Core.Path.{◌≡◌, refl, sym, ap, subst, ◌∙◌}
@@ -9,11 +10,9 @@ use lib.ListN.{get_or, set, replicate}
 use lib.Dec.{ltb, eqb}
 use borrow.Author.Tests.{eqb-true, eqb-false}
 use Rattle.words.proofs.Steps.{either}
-use Rattle.header.specs.declared.ids.Known.TheVariants as known
 use Rattle.header.specs.declared.ids.RequestId.{RequestId}
 use Rattle.answers.specs.declared.kind.Kind.{Kind}
 use Rattle.wire_laws.specs.Assigned.{Assigned, Given}
-use Rattle.wire.specs.declared.message.Asked.{Asked}
 use Rattle.wire.specs.declared.message.Asked.TheVariants as asks
 use Rattle.wire.specs.declared.message.Request.{Request}
 use Rattle.wire_laws.proofs.Assigned.{assigned}
@@ -31,13 +30,9 @@ use Rattle.rules.specs.Request.{opened}
 use Rattle.rules.specs.Decide.{decided}
 use Rattle.rules.specs.declared.verdict.Act.{Act}
 use Rattle.rules.specs.declared.verdict.Act.TheVariants as act
-use Rattle.rules.specs.declared.verdict.Verdict.{Verdict}
-use Rattle.rules.specs.declared.verdict.Verdict.TheVariants.{Refused, Accepted}
-use Rattle.turn.specs.Admit.{admitted}
+use Rattle.turn.specs.Admit.{Admitted, admitted}
 use Rattle.turn.specs.Step.{after_of, verdict_by, verdict_of}
 use Rattle.turn.specs.Store.{here_of, seen_of, stored}
-use Rattle.turn.specs.declared.admit.Admitted.{Admitted}
-use Rattle.turn.specs.declared.admit.Admitted.TheVariants as admit
 use Rattle.table.specs.Table.{blank_channel, channel_of, close_of, judge_of, open_of}
 use Rattle.places.specs.Place.{no_place, used_up}
 use Rattle.table.specs.declared.table.Judged.{Judged}
@@ -47,11 +42,15 @@ use Rattle.promises.proofs.Admitted.{admitted_has}
 use Rattle.promises.proofs.InRow.{holds_in}
 use Rattle.promises.proofs.Decided.{cancelled_has, io_has, no_data_has, out_has, taken_has, urb_has}
 use Rattle.promises.specs.Sound.{Numbered, row_of, Sound, SoundChannel}
+use Rattle.wire.specs.declared.message.Asked.{Asked}
+use Rattle.wire.specs.declared.message.Unfit.{Unfit}
+use Rattle.wire.specs.declared.message.Unfit.TheVariants as unfit
+use Rattle.rules.specs.Verdict.{Verdict}
 
 -- What an act asks of the channel that it is done to, so that it stays sound: n is the call's number.
 abbrev Fits : Channel → ℕ → Act → Type 0
 Fits c n act.Keep = Unit {0}
-Fits c n (act.Device id ms) = Given (known.Is id)
+Fits c n (act.Device id ms) = Given (Some id)
 Fits c n (act.Callback known) = Given known
 Fits c n (act.Take at row) = Numbered (n + 1) row.sort × ((id : RequestId) → holds id row ≡ true → (i : ℕ) → holds id (row_of c i) ≡ false)
 Fits c n (act.Free at) = Unit {0}
@@ -59,8 +58,8 @@ Fits c n (act.Mark at) = Unit {0}
 Fits c n act.Empty = Unit {0}
 
 abbrev Safe : Channel → ℕ → Verdict → Type 0
-Safe c n (Refused k a) = Unit {0}
-Safe c n (Accepted a) = Fits c n a.act
+Safe c n (Err r) = Unit {0}
+Safe c n (Ok a) = Fits c n a.act
 
 names_it : (r : Request) (id : RequestId) → eqb r.request.0 id.0 ≡ true → r.request ≡ id
 names_it r id e = ap (λ (x : ℕ). record { 0 = x }) (eqb-true r.request.0 id.0 e)
@@ -70,33 +69,33 @@ alone : (c : Channel) (r : Request) (s : Sort) → ((id : RequestId) → holds_b
     → (id : RequestId) → holds id (record { sort = s }) ≡ true → (i : ℕ) → holds id (row_of c i) ≡ false
 alone c r s nm e id h i = subst (λ q. holds q (row_of c i) ≡ false) (nm id h) (nothing_held c r.request e i)
 
-decided_safe : (c : Channel) (n : ℕ) (k : Kind) (a : Asked) → 1 ≤ n → Assigned a → Safe c n (decided k a n c.jitter (seen_of c a))
+decided_safe : (c : Channel) (n : ℕ) (k : Kind) (a : Result Asked Unfit) → 1 ≤ n → Assigned a → Safe c n (decided k a n c.jitter (seen_of c a))
 unfolding decided here_of opened
-decided_safe c n k (asks.Fails fault) h g = tt
-decided_safe c n k asks.Value h g = tt
-decided_safe c n k asks.Step h g = tt
-decided_safe c n k (asks.Device id ms) h g = g
-decided_safe c n k (asks.Callback id) h g = g
-decided_safe c n k (asks.IoControl r) h g =
+decided_safe c n k (Err (unfit.Sizes fault)) h g = tt
+decided_safe c n k (Err unfit.Value) h g = tt
+decided_safe c n k (Ok asks.Step) h g = tt
+decided_safe c n k (Ok (asks.Device id ms)) h g = g
+decided_safe c n k (Ok (asks.Callback id)) h g = g
+decided_safe c n k (Ok (asks.IoControl r)) h g =
     taken_has (Safe c n) k (λ b q. tt) r (Io (opened r n)) (held_of c r.request) (lowest_of c) (λ at e. ((h, omega arith), alone c r (Io (opened r n)) (names_it r) e))
-decided_safe c n k (asks.TransferIn r) h g =
+decided_safe c n k (Ok (asks.TransferIn r)) h g =
     taken_has (Safe c n) k (λ b q. tt) r (In (opened r n)) (held_of c r.request) (lowest_of c) (λ at e. ((h, omega arith), alone c r (In (opened r n)) (names_it r) e))
-decided_safe c n k (asks.TransferOut r) h g =
+decided_safe c n k (Ok (asks.TransferOut r)) h g =
     out_has (Safe c n) k (λ b q. tt) r n c.jitter (held_of c r.request) (lowest_of c) tt (λ at e. ((h, omega arith), alone c r (Out (opened r n)) (names_it r) e))
-decided_safe c n k (asks.Cancel id) h g = cancelled_has (Safe c n) k (λ b q. tt) id (held_of c id) tt (λ at o e m. tt) (λ at o e m. tt) (λ at o e m. tt)
-decided_safe c n k asks.Retract h g = tt
-decided_safe c n k (asks.IoCompletion d) h g = io_has (Safe c n) k (λ b q. tt) d (held_of c d.request) (λ at o e. tt)
-decided_safe c n k (asks.UrbCompletion d) h g = urb_has (Safe c n) k (λ b q. tt) d (held_of c d.request) (λ at o e. tt)
-decided_safe c n k (asks.UrbCompletionNoData d) h g = no_data_has (Safe c n) k (λ b q. tt) d (held_of c d.request) (λ at o e. tt) (λ at o e. tt)
+decided_safe c n k (Ok (asks.Cancel id)) h g = cancelled_has (Safe c n) k (λ b q. tt) id (held_of c id) tt (λ at o e m. tt) (λ at o e m. tt) (λ at o e m. tt)
+decided_safe c n k (Ok asks.Retract) h g = tt
+decided_safe c n k (Ok (asks.IoCompletion d)) h g = io_has (Safe c n) k (λ b q. tt) d (held_of c d.request) (λ at o e. tt)
+decided_safe c n k (Ok (asks.UrbCompletion d)) h g = urb_has (Safe c n) k (λ b q. tt) d (held_of c d.request) (λ at o e. tt)
+decided_safe c n k (Ok (asks.UrbCompletionNoData d)) h g = no_data_has (Safe c n) k (λ b q. tt) d (held_of c d.request) (λ at o e. tt) (λ at o e. tt)
 
 -- what is admitted asks only for interfaces that may be given
 abbrev Learns : Admitted → Type 0
-Learns (admit.Refused k a) = Unit {0}
-Learns (admit.Asks k a) = Assigned a
+Learns (Err r) = Unit {0}
+Learns (Ok (k, a)) = Assigned a
 
 by_safe : (c : Channel) (n : ℕ) (a : Admitted) → 1 ≤ n → Learns a → Safe c n (verdict_by c n a)
-by_safe c n (admit.Refused k a) h g = tt
-by_safe c n (admit.Asks k a) h g = decided_safe c n k a h g
+by_safe c n (Err r) h g = tt
+by_safe c n (Ok (k, a)) h g = decided_safe c n k a h g
 
 safe : (c : Channel) (n side : ℕ) (m : List ℕ) → 1 ≤ n → Safe c n (verdict_of c n side m)
 unfolding verdict_of
@@ -186,8 +185,8 @@ acted n c phase act.Empty s f =
 
 said : (n : ℕ) (c : Channel) (v : Verdict) → SoundChannel n c → Safe c n v → SoundChannel (n + 1) (after_of c v)
 unfolding after_of
-said n c (Refused k a) s f = kept n c s
-said n c (Accepted a) s f = acted n c a.phase a.act s f
+said n c (Err r) s f = kept n c s
+said n c (Ok a) s f = acted n c a.phase a.act s f
 
 new_sound : (n : ℕ) → SoundChannel n new_channel
 new_sound n = record { device = tt; callback = tt; numbers = empty_number n; once = λ id i j p q. absurd (empty_holds id i p) }
@@ -212,7 +211,7 @@ moved_sound t at c s h i = go (set_read t.channels at c i blank_channel)
     go (inl e) = subst (SoundChannel (t.next + 1)) (sym e) (kept t.next (channel_of t i) (s i))
     go (inr e) = subst (SoundChannel (t.next + 1)) (sym e.1) h
 
-usable : (n : ℕ) → used_up n ≡ false → 1 ≤ n
+pub usable : (n : ℕ) → used_up n ≡ false → 1 ≤ n
 usable n e = let z = eqb-false n 0 (go (eqb n 0) (eqb n 4294967295) e) in omega (arith, z)
   where
     go : (a b : Bool) → (a || b) ≡ false → a ≡ false

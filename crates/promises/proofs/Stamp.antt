@@ -1,10 +1,9 @@
 -- The stamp decides nothing.
+use Rattle.std.specs.Prelude.{Ok, Err}
 use Prim.Native.Nat.{ℕ}
 use mathlib.Core.Path.{◌≡◌, refl}
 use mathlib.Core.Bool.{Bool, true, false, cond}
 use lib.Dec.{ltb}
-use Rattle.rules.specs.declared.verdict.Verdict.{Verdict}
-use Rattle.rules.specs.declared.verdict.Verdict.TheVariants.{Refused, Accepted}
 use Rattle.turn.specs.Step.{verdict_of}
 use Rattle.table.specs.Entry.{judged_entry}
 use Rattle.table.specs.Table.{channel_of, close_of, judged_by, judge_of}
@@ -13,6 +12,7 @@ use Rattle.table.specs.declared.table.Judged.{Judged}
 use Rattle.table.specs.declared.table.Table.{Table}
 use Rattle.journal.specs.Calls.{Asks, Call, called, called_by, closing, judging}
 use Rattle.promises.specs.Stamp.{asks_at, call_at, judged_at}
+use Rattle.rules.specs.Verdict.{Verdict}
 
 -- a test that no stamp is part of
 through : (s : ℕ) (b : Bool) (j k l m : Judged) → j ≡ judged_at s l → k ≡ judged_at s m → cond b j k ≡ judged_at s (cond b l m)
@@ -21,8 +21,8 @@ through s false j k l m p q = q
 
 said : (t : Table) (channel side s r : ℕ) (v : Verdict) → judged_by t channel side s v ≡ judged_at s (judged_by t channel side r v)
 unfolding judged_entry
-said t channel side s r (Refused k a) = refl
-said t channel side s r (Accepted a) = refl
+said t channel side s r (Err refusal) = refl
+said t channel side s r (Ok a) = refl
 
 by_call : (t : Table) (channel s : ℕ) (a : Asks) → called_by t channel (asks_at s a) ≡ judged_at s (called_by t channel a)
 unfolding judge_of close_of

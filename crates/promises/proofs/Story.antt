@@ -1,4 +1,5 @@
 -- What an accepted message does with rows and numbers: it opens a request under its own number, or names one, whose row it frees or marks, or neither.
+use Rattle.std.specs.Prelude.{Option, Some, None, Result, Ok, Err}
 use Prim.Native.Nat.{ℕ, ◌≤◌}
 use native.Mathlib.Omega.{arith}
 use mathlib.Core.Path.{◌≡◌, refl, sym, ap, subst, ◌∙◌}
@@ -10,14 +11,11 @@ use borrow.Author.Tests.{eqb-true}
 use Rattle.answers.specs.Kind.{kind_number}
 use Rattle.header.specs.declared.ids.RequestId.{RequestId}
 use Rattle.answers.specs.declared.kind.Kind.{Kind}
-use Rattle.wire.specs.declared.message.Asked.{Asked}
 use Rattle.wire.specs.declared.message.Asked.TheVariants as asks
 use Rattle.channel.specs.Rows.{free_row}
 use Rattle.rows.specs.Search.{lowest_of}
 use Rattle.requests.specs.Held.{find_of, held_at, held_by, held_of, holds}
 use Rattle.channel.specs.declared.channel.Channel.{Channel}
-use Rattle.rows.specs.declared.search.Found.{Found}
-use Rattle.rows.specs.declared.search.Found.TheVariants as found
 use Rattle.requests.specs.declared.open.Held.{Held}
 use Rattle.requests.specs.declared.open.Held.TheVariants as held
 use Rattle.channel.specs.declared.row.Open.{Open}
@@ -28,18 +26,18 @@ use Rattle.rules.specs.Request.{opened}
 use Rattle.rules.specs.Decide.{decided}
 use Rattle.rules.specs.declared.verdict.Act.{Act}
 use Rattle.rules.specs.declared.verdict.Act.TheVariants as act
-use Rattle.rules.specs.declared.verdict.Verdict.{Verdict}
-use Rattle.rules.specs.declared.verdict.Verdict.TheVariants.{Refused, Accepted}
-use Rattle.turn.specs.Admit.{admitted}
+use Rattle.turn.specs.Admit.{Admitted, admitted}
 use Rattle.turn.specs.Step.{verdict_by, verdict_of}
 use Rattle.turn.specs.Store.{here_of, seen_of}
-use Rattle.turn.specs.declared.admit.Admitted.{Admitted}
-use Rattle.turn.specs.declared.admit.Admitted.TheVariants as admit
 use Rattle.promises.specs.Names.{in_kind, io_kind, may_name, out_kind}
 use Rattle.promises.specs.Sound.{row_of}
 use Rattle.promises.proofs.Admitted.{admitted_has}
 use Rattle.promises.proofs.Decided.{cancelled_has, io_has, no_data_has, out_has, taken_has, urb_has}
 use Rattle.promises.proofs.Kinded.{Kinded, kinded, Quiet}
+use Rattle.wire.specs.declared.message.Asked.{Asked}
+use Rattle.wire.specs.declared.message.Unfit.{Unfit}
+use Rattle.wire.specs.declared.message.Unfit.TheVariants as unfit
+use Rattle.rules.specs.Verdict.{Verdict}
 
 -- the kinds of request that a row's sort is for
 abbrev pub kind_for : Sort → ℕ → Bool
@@ -82,8 +80,8 @@ Tells c n kind request cause (act.Mark at) = Picks cause request kind (row_of c 
 Tells c n kind request cause act.Empty = (cause ≡ 0) × (kind ≡ 14)
 
 abbrev pub Story : Channel → ℕ → Verdict → Type 0
-Story c n (Refused k a) = Unit {0}
-Story c n (Accepted a) = Tells c n a.kind a.request a.cause a.act
+Story c n (Err r) = Unit {0}
+Story c n (Ok a) = Tells c n a.kind a.request a.cause a.act
 
 -- ---- what is held under an id stands in its row
 abbrev Stands : Channel → RequestId → Held → Type 0
@@ -102,9 +100,9 @@ stands : (c : Channel) (id : RequestId) → Stands c id (held_of c id)
 unfolding held_of
 stands c id = go (find_of c id) refl
   where
-    go : (f : Found) → find_of c id ≡ f → Stands c id (held_at c.rows f)
-    go found.Nothing t = tt
-    go (found.At at) t =
+    go : (f : Option ℕ) → find_of c id ≡ f → Stands c id (held_at c.rows f)
+    go None t = tt
+    go (Some at) t =
         let (k, h) = first_there (holds id) c.rows 0 at t in
         let q : at ≡ k = omega (arith, h.0) in
         by_stands c id at (row_of c at).sort refl (ap (λ n. holds id (get_or c.rows n free_row)) q ∙ h.1)
@@ -144,42 +142,42 @@ or_right false b e = e
 found_there : (c : Channel) (id : RequestId) (here : Held) → held_of c id ≡ here → Stands c id here
 found_there c id here e = subst (Stands c id) e (stands c id)
 
-decided_story : (c : Channel) (n : ℕ) (k : Kind) (a : Asked) → Kinded (kind_number k) a → Story c n (decided k a n c.jitter (seen_of c a))
+decided_story : (c : Channel) (n : ℕ) (k : Kind) (a : Result Asked Unfit) → Kinded (kind_number k) a → Story c n (decided k a n c.jitter (seen_of c a))
 unfolding decided here_of opened
-decided_story c n k (asks.Fails fault) h = tt
-decided_story c n k asks.Value h = tt
-decided_story c n k asks.Step h = (refl, h)
-decided_story c n k (asks.Device id ms) h = (refl, h)
-decided_story c n k (asks.Callback id) h = (refl, h)
-decided_story c n k (asks.IoControl r) h =
+decided_story c n k (Err (unfit.Sizes fault)) h = tt
+decided_story c n k (Err unfit.Value) h = tt
+decided_story c n k (Ok asks.Step) h = (refl, h)
+decided_story c n k (Ok (asks.Device id ms)) h = (refl, h)
+decided_story c n k (Ok (asks.Callback id)) h = (refl, h)
+decided_story c n k (Ok (asks.IoControl r)) h =
     taken_has (Story c n) k (λ b q. tt) r (Io (opened r n)) (held_of c r.request) (lowest_of c) (λ at e. (refl, io_low (kind_number k) h, (record { open' = opened r n; is = refl; number = refl; id = refl; fits = h })))
-decided_story c n k (asks.TransferIn r) h =
+decided_story c n k (Ok (asks.TransferIn r)) h =
     taken_has (Story c n) k (λ b q. tt) r (In (opened r n)) (held_of c r.request) (lowest_of c) (λ at e. (refl, omega (arith, h), (record { open' = opened r n; is = refl; number = refl; id = refl; fits = rw h })))
-decided_story c n k (asks.TransferOut r) h =
+decided_story c n k (Ok (asks.TransferOut r)) h =
     out_has (Story c n) k (λ b q. tt) r n c.jitter (held_of c r.request) (lowest_of c) (refl, omega arith) (λ at e. (refl, omega (arith, h), (record { open' = opened r n; is = refl; number = refl; id = refl; fits = rw h })))
-decided_story c n k (asks.Cancel id) h =
+decided_story c n k (Ok (asks.Cancel id)) h =
     cancelled_has (Story c n) k (λ b q. tt) id (held_of c id) (refl, omega (arith, h))
     (λ at o e m. (row_picked c at (Io o) o id (kind_number k) refl (λ j n. rw h (or_left (io_kind j) _ n)) (found_there c id _ e), h, row_unmarked c at (Io o) o id refl m (found_there c id _ e)))
     (λ at o e m. (row_picked c at (In o) o id (kind_number k) refl (λ j n. rw h (or_right (io_kind j) _ (or_left (in_kind j) (out_kind j) n))) (found_there c id _ e), h, row_unmarked c at (In o) o id refl m (found_there c id _ e)))
     (λ at o e m. (row_picked c at (Out o) o id (kind_number k) refl (λ j n. rw h (or_right (io_kind j) _ (or_right (in_kind j) (out_kind j) n))) (found_there c id _ e), h, row_unmarked c at (Out o) o id refl m (found_there c id _ e)))
-decided_story c n k asks.Retract h = (refl, h)
-decided_story c n k (asks.IoCompletion d) h =
+decided_story c n k (Ok asks.Retract) h = (refl, h)
+decided_story c n k (Ok (asks.IoCompletion d)) h =
     io_has (Story c n) k (λ b q. tt) d (held_of c d.request) (λ at o e. (row_picked c at (Io o) o d.request (kind_number k) refl (λ j m. rw h m) (found_there c d.request _ e), (omega (arith, h), omega (arith, h))))
-decided_story c n k (asks.UrbCompletion d) h =
+decided_story c n k (Ok (asks.UrbCompletion d)) h =
     urb_has (Story c n) k (λ b q. tt) d (held_of c d.request) (λ at o e. (row_picked c at (In o) o d.request (kind_number k) refl (λ j m. rw h m) (found_there c d.request _ e), (omega (arith, h), omega (arith, h))))
-decided_story c n k (asks.UrbCompletionNoData d) h =
+decided_story c n k (Ok (asks.UrbCompletionNoData d)) h =
     no_data_has (Story c n) k (λ b q. tt) d (held_of c d.request)
     (λ at o e. (row_picked c at (In o) o d.request (kind_number k) refl (λ j m. rw h (or_left (in_kind j) (out_kind j) m)) (found_there c d.request _ e), (omega (arith, h), omega (arith, h))))
     (λ at o e. (row_picked c at (Out o) o d.request (kind_number k) refl (λ j m. rw h (or_right (in_kind j) (out_kind j) m)) (found_there c d.request _ e), (omega (arith, h), omega (arith, h))))
 
 -- ---- from the message
 abbrev Asking : Admitted → Type 0
-Asking (admit.Refused k a) = Unit {0}
-Asking (admit.Asks k a) = Kinded (kind_number k) a
+Asking (Err r) = Unit {0}
+Asking (Ok (k, a)) = Kinded (kind_number k) a
 
 by_story : (c : Channel) (n : ℕ) (a : Admitted) → Asking a → Story c n (verdict_by c n a)
-by_story c n (admit.Refused k a) h = tt
-by_story c n (admit.Asks k a) h = decided_story c n k a h
+by_story c n (Err r) h = tt
+by_story c n (Ok (k, a)) h = decided_story c n k a h
 
 pub story : (c : Channel) (n side : ℕ) (m : List ℕ) → Story c n (verdict_of c n side m)
 unfolding verdict_of

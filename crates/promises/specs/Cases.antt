@@ -1,22 +1,20 @@
 -- 01 "Shown of the rules themselves": the cases C1 to C12, each with what the document says of it, and behind them what 02 R-2 says of C1's request once it is cancelled. Stamps are made up; no case has one.
-use Rattle.std.specs.Prelude.{ℕ, Bool, false, true, List, [], ◌∷◌, ◌++◌, length, replicate, take}
-use Rattle.header.specs.declared.ids.Known.TheVariants as known
+use Rattle.std.specs.Prelude.{ℕ, Bool, false, true, List, [], ◌∷◌, ◌++◌, length, replicate, take, Option, Some, None}
 use Rattle.channel.specs.Rows.{free_row, new_channel}
 use Rattle.channel.specs.declared.row.Row.{Row}
 use Rattle.channel.specs.declared.row.Sort.TheVariants.{In}
 use Rattle.answers.specs.Answer.{answer_number}
 use Rattle.table.specs.Table.{open_of}
-use Rattle.answers.specs.declared.entry.Noted.{Noted}
-use Rattle.answers.specs.declared.entry.Noted.TheVariants.{Nothing, Is}
 use Rattle.table.specs.declared.table.Table.{Table}
 use Rattle.journal.specs.Calls.{after, Asks, Call, called, closing, judging}
 use Rattle.promises.specs.Demand3.{payload_by, start_by, up_from}
+use Rattle.answers.specs.declared.entry.Entry.{Entry}
 
 -- what is shown of a call: how long its message is, its answer's number, its entry, its payload with the byte at which it starts, and the whole table afterwards
 pub record Shown : Type 0 where
   pub size : ℕ
   pub answer : ℕ
-  pub entry : Noted
+  pub entry : Option Entry
   pub payload : List ℕ
   pub start : ℕ
   pub table : Table
@@ -42,7 +40,7 @@ outcome k = shown (after k.start k.before) k.call
 -- a table whose channel 0 is in this phase, with device 4, callback 5, NoAck 0 and these rows; other channels new
 abbrev pub table_in : ℕ → ℕ → List Row → Table
 table_in phase next rows =
-    record { next = next; channels = record { phase = phase; device = known.Is (record { 0 = 4 }); callback = known.Is (record { 0 = 5 }); jitter = 0; rows = rows } ∷ replicate 7 new_channel }
+    record { next = next; channels = record { phase = phase; device = Some (record { 0 = 4 }); callback = Some (record { 0 = 5 }); jitter = 0; rows = rows } ∷ replicate 7 new_channel }
 
 abbrev pub table_of : ℕ → List Row → Table
 table_of next rows = table_in 5 next rows
@@ -102,9 +100,9 @@ abbrev pub c2 : Call
 c2 = client 90 (completion 2 (0xAA ∷ 0xBB ∷ []))
 
 -- an entry by its nine fields in 01's order
-abbrev pub says : ℕ → ℕ → ℕ → ℕ → ℕ → ℕ → ℕ → ℕ → ℕ → Noted
+abbrev pub says : ℕ → ℕ → ℕ → ℕ → ℕ → ℕ → ℕ → ℕ → ℕ → Option Entry
 says number channel side kind answer request cause size stamp =
-    Is (record { number = number; channel = channel; side = side; kind = kind; answer = answer; request = request; cause = cause; size = size; stamp = stamp })
+    Some (record { number = number; channel = channel; side = side; kind = kind; answer = answer; request = request; cause = cause; size = size; stamp = stamp })
 
 abbrev pub case1 : Case
 case1 = record { start = ready; before = []; call = c1; shows = record { size = 36; answer = 0; entry = says 10 0 1 10 0 7 0 64 100; payload = []; start = 0; table = table_of 11 open7 } }
@@ -149,7 +147,7 @@ abbrev pub case11 : Case
 case11 = record { start = open_of 4294967294; before = []; call = close 100; shows = record { size = 0; answer = 0; entry = says 4294967294 0 3 18 0 0 0 0 100; payload = []; start = 0; table = open_of 4294967295 } }
 
 abbrev pub case11again : Case
-case11again = record { start = open_of 4294967294; before = close 100 ∷ []; call = close 100; shows = record { size = 0; answer = 1; entry = Nothing; payload = []; start = 0; table = open_of 4294967295 } }
+case11again = record { start = open_of 4294967294; before = close 100 ∷ []; call = close 100; shows = record { size = 0; answer = 1; entry = None; payload = []; start = 0; table = open_of 4294967295 } }
 
 -- a cancel of 9, which is not open
 abbrev pub case12 : Case

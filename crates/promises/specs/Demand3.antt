@@ -1,15 +1,13 @@
 -- Demand 3, whole: reorder the calls of a run, each channel's order kept, and there are the same answers, payloads, entries and rows but for numbers, and each cause names the same call;
 -- and in either journal every accepted completion names one earlier accepted request of its channel, and, as 02 R-2 has it, of those that name one request at most one is a cancel and at most one a
 -- completion; no cancel names a request after its completion; and no accepted retract or close of its channel stands between a request and an entry that names it.
-use Rattle.std.specs.Prelude.{ℕ, zero, suc, ◌≡◌, List, [], ◌∷◌, map, eqb, get_or, length}
+use Rattle.std.specs.Prelude.{ℕ, zero, suc, ◌≡◌, List, [], ◌∷◌, map, eqb, get_or, length, Option, Some, None, option_map}
 use Rattle.channel.specs.Rows.{in_channel, in_row}
 use Rattle.channel.specs.declared.channel.Channel.{Channel}
 use Rattle.channel.specs.declared.row.Open.{Open}
 use Rattle.channel.specs.declared.row.Row.{Row}
 use Rattle.answers.specs.declared.answer.Answer.{Answer}
 use Rattle.answers.specs.declared.entry.Entry.{Entry}
-use Rattle.answers.specs.declared.entry.Noted.{Noted}
-use Rattle.answers.specs.declared.entry.Noted.TheVariants.{Nothing, Is}
 use Rattle.payloads.specs.Payload.{payload_of, start_of}
 use Rattle.table.specs.Table.{open_of}
 use Rattle.table.specs.declared.table.Table.{Table}
@@ -32,7 +30,7 @@ start_by t channel (closing stamp) = 0
 pub record Done : Type 0 where
   pub channel : ℕ
   pub answer : Answer
-  pub entry : Noted
+  pub entry : Option Entry
   pub payload : List ℕ
   pub start : ℕ
 
@@ -49,9 +47,9 @@ abbrev pub done_on : ℕ → List Done → List Done
 done_on d [] = []
 done_on d (x ∷ xs) = keep (eqb x.channel d) x (done_on d xs)
 
-abbrev pub with_entry : Noted → List Entry → List Entry
-with_entry Nothing es = es
-with_entry (Is e) es = e ∷ es
+abbrev pub with_entry : Option Entry → List Entry → List Entry
+with_entry None es = es
+with_entry (Some e) es = e ∷ es
 
 abbrev pub entries_of : List Done → List Entry
 entries_of [] = []
@@ -73,18 +71,16 @@ SameCalls xs ys = Reordered (map tagged xs) (map tagged ys)
 
 -- ---- the same but for numbers: each journal number n is f n, and nothing else is another
 abbrev pub ren_entry : (ℕ → ℕ) → Entry → Entry
-ren_entry f e =
-    record { number = f e.number; channel = e.channel; side = e.side; kind = e.kind; answer = e.answer; request = e.request; cause = f e.cause; size = e.size; stamp = e.stamp }
+ren_entry f e = record e { number = f e.number; cause = f e.cause }
 
-abbrev pub ren_noted : (ℕ → ℕ) → Noted → Noted
-ren_noted f Nothing = Nothing
-ren_noted f (Is e) = Is (ren_entry f e)
+abbrev pub ren_noted : (ℕ → ℕ) → Option Entry → Option Entry
+ren_noted f e = option_map (ren_entry f) e
 
 abbrev pub ren_done : (ℕ → ℕ) → Done → Done
-ren_done f d = record { channel = d.channel; answer = d.answer; entry = ren_noted f d.entry; payload = d.payload; start = d.start }
+ren_done f d = record d { entry = ren_noted f d.entry }
 
 abbrev pub ren_open : (ℕ → ℕ) → Open → Open
-ren_open f o = record { request = o.request; number = f o.number; size = o.size; marked = o.marked }
+ren_open f o = record o { number = f o.number }
 
 abbrev pub ren_row : (ℕ → ℕ) → Row → Row
 ren_row f r = in_row (ren_open f) r

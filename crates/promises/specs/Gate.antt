@@ -4,8 +4,7 @@ use Rattle.channel.specs.Rows.{new_channel}
 use Rattle.rows.specs.Search.{open_count}
 use Rattle.channel.specs.declared.channel.Channel.{Channel}
 use Rattle.answers.specs.declared.answer.Answer.{Answer}
-use Rattle.answers.specs.declared.answer.Answer.TheVariants.{Accepted, NoPlace}
-use Rattle.rules.specs.declared.verdict.Verdict.{Verdict}
+use Rattle.answers.specs.declared.answer.Answer.TheVariants as answer
 use Rattle.turn.specs.Step.{after_of, verdict_of}
 use Rattle.table.specs.Entry.{answer_of, close_entry, close_side, judged_entry, refused_entry}
 use Rattle.payloads.specs.Payload.{cut_of, shown_by, start_in}
@@ -13,6 +12,7 @@ use Rattle.places.specs.Place.{of_side}
 use Rattle.answers.specs.declared.entry.Entry.{Entry}
 use Rattle.journal.specs.Calls.{Asks, judging, closing}
 use Rattle.promises.specs.Demand3.{ren_channel}
+use Rattle.rules.specs.Verdict.{Verdict}
 
 -- a channel, or where there is none: a channel above 7
 pub data Place : Type 0 where
@@ -27,13 +27,13 @@ pub record Gave : Type 0 where
   pub start : ℕ
 
 abbrev pub unplaced_gave : ℕ → ℕ → Gave
-unplaced_gave side stamp = record { answer = NoPlace; entry = refused_entry 0 0 side stamp 0 NoPlace; payload = []; start = 0 }
+unplaced_gave side stamp = record { answer = answer.NoPlace; entry = refused_entry 0 0 side stamp 0 answer.NoPlace; payload = []; start = 0 }
 
 abbrev pub said_gave : ℕ → ℕ → List ℕ → Verdict → Gave
 said_gave side stamp m v = record { answer = answer_of v; entry = judged_entry 0 0 side stamp v; payload = cut_of m (shown_by v); start = start_in m (shown_by v) }
 
 abbrev pub closed_gave : ℕ → ℕ → Gave
-closed_gave stamp count = record { answer = Accepted; entry = close_entry 0 0 stamp count; payload = []; start = 0 }
+closed_gave stamp count = record { answer = answer.Accepted; entry = close_entry 0 0 stamp count; payload = []; start = 0 }
 
 -- the call with journal number n
 abbrev pub gate_step : ℕ → Place → Asks → Gave × Place
@@ -51,8 +51,7 @@ ren_place f outside = outside
 ren_place f (inside c) = inside (ren_channel f c)
 
 abbrev pub ren_cause : (ℕ → ℕ) → Entry → Entry
-ren_cause f e =
-    record { number = e.number; channel = e.channel; side = e.side; kind = e.kind; answer = e.answer; request = e.request; cause = f e.cause; size = e.size; stamp = e.stamp }
+ren_cause f e = record e { cause = f e.cause }
 
 abbrev pub ren_gave : (ℕ → ℕ) → Gave → Gave
-ren_gave f g = record { answer = g.answer; entry = ren_cause f g.entry; payload = g.payload; start = g.start }
+ren_gave f g = record g { entry = ren_cause f g.entry }

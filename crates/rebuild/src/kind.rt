@@ -1,47 +1,35 @@
 // The kind of a message that passes checks 3 to 8, by its entry: 9 to 14 are tried behind them.
-use answers::entry::{Entry, Noted};
+use answers::entry::Entry;
 use answers::kind::Kind;
 
-#[derive(Clone, Copy)]
-pub(crate) enum Passed {
-    Nothing,
-    Is(Kind),
-}
-
-pub(crate) fn of(entry: Noted) -> Passed {
-    match entry {
-        Noted::Nothing => Passed::Nothing,
-        Noted::Is(e) => by_answer(e),
-    }
-}
-
-fn by_answer(e: Entry) -> Passed {
-    let answer = e.answer;
-    match answer {
+pub(crate) fn of(entry: Option<Entry>) -> Option<Kind> {
+    let e = entry?;
+    match e.answer {
         0 | 9..=14 => numbered(e.kind),
-        _ => Passed::Nothing,
+        _ => None,
     }
 }
 
 // 12 is an accepted transfer out with NoAck.
-fn numbered(number: u8) -> Passed {
-    match number {
-        1 => Passed::Is(Kind::CapabilityRequest),
-        2 => Passed::Is(Kind::CapabilityResponse),
-        3 => Passed::Is(Kind::ChannelCreatedByServer),
-        4 => Passed::Is(Kind::ChannelCreatedByClient),
-        5 => Passed::Is(Kind::AddVirtualChannel),
-        6 => Passed::Is(Kind::AddDevice),
-        7 => Passed::Is(Kind::RegisterRequestCallback),
-        8 => Passed::Is(Kind::IoControl),
-        9 => Passed::Is(Kind::InternalIoControl),
-        10 => Passed::Is(Kind::TransferInRequest),
-        11 | 12 => Passed::Is(Kind::TransferOutRequest),
-        13 => Passed::Is(Kind::CancelRequest),
-        14 => Passed::Is(Kind::RetractDevice),
-        15 => Passed::Is(Kind::IoControlCompletion),
-        16 => Passed::Is(Kind::UrbCompletion),
-        17 => Passed::Is(Kind::UrbCompletionNoData),
-        _ => Passed::Nothing,
-    }
+fn numbered(number: u8) -> Option<Kind> {
+    let kind = match number {
+        1 => Kind::CapabilityRequest,
+        2 => Kind::CapabilityResponse,
+        3 => Kind::ChannelCreatedByServer,
+        4 => Kind::ChannelCreatedByClient,
+        5 => Kind::AddVirtualChannel,
+        6 => Kind::AddDevice,
+        7 => Kind::RegisterRequestCallback,
+        8 => Kind::IoControl,
+        9 => Kind::InternalIoControl,
+        10 => Kind::TransferInRequest,
+        11 | 12 => Kind::TransferOutRequest,
+        13 => Kind::CancelRequest,
+        14 => Kind::RetractDevice,
+        15 => Kind::IoControlCompletion,
+        16 => Kind::UrbCompletion,
+        17 => Kind::UrbCompletionNoData,
+        _ => return None,
+    };
+    Some(kind)
 }

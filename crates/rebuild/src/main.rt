@@ -2,123 +2,85 @@
 // comes out is what went in, but for padding, which is written 0. All else is copied as it came: refused messages, records that close, and a record that is cut.
 #![tactic(auto)]
 
-ghost use Rattle.std.specs.Prelude.{◌≡◌, ◌≤◌, length};
+ghost use Rattle.std.specs.Prelude.{◌≤◌, IfSome};
 
-use answers::entry::Noted;
+use answers::kind::Kind;
 use fields::message::read;
 use header::ids::MessageId;
 use journal::record;
-use journal::record::{Head, Next, Record};
-use pieces::piece::Written;
+use journal::record::HEAD;
+use pieces::piece::LONGEST;
 use table::entry::Close;
 use table::table::{Table, close, judge, open};
-use words::numbers::u16_at;
 use writer::message::write;
 
 mod kind;
 
-use crate::kind::Passed;
+// The longest record.
+const RECORD: usize = HEAD + LONGEST;
 
 fn main() {
-    // the longest record, and the longest message
-    let mut bytes = [0u8; 65547];
-    let mut made = [0u8; 65535];
+    let mut bytes = [0u8; RECORD];
+    let mut made = [0u8; LONGEST];
     records(&mut bytes, &mut made);
 }
 
 // No input has as many records as a number of 64 bits counts.
-fn records(bytes: &mut [u8], made: &mut [u8]) {
+fn records(bytes: &mut [u8; RECORD], made: &mut [u8; LONGEST]) {
     let mut t = open(1);
-    let mut turn: u64 = 0;
-    while turn < 0xFFFF_FFFF_FFFF_FFFF {
-        let size = fetch(bytes);
-        if size == 0 {
+    for _ in 0..u64::MAX {
+        let Some(size) = fetch(bytes) else {
             return;
-        }
+        };
         t = of_record(t, &bytes[..size], made);
-        turn += 1;
     }
 }
 
-// Reads a record to the front of the bytes, and says how long it is. Where the input ends before the record does, what there is of it is copied, and 0 is said.
-fn fetch(bytes: &mut [u8]) -> usize
-    ensures { result ≤ length bytes.old }
+// Reads a record to the front of the bytes, and says how long it is. Where the input ends before the record does, what there is of it is copied.
+fn fetch(bytes: &mut [u8; RECORD]) -> Option<usize>
+    ensures { IfSome result (λ n. n ≤ 65547) }
 {
-    if bytes.len() < Record::HEAD {
-        return 0;
+    let head = io::read_full(0, &mut bytes[..HEAD]);
+    if head < HEAD {
+        io::write_all(1, &bytes[..head]);
+        return None;
     }
-    let head = io::read_full(0, &mut bytes[..Record::HEAD]);
-    if head < Record::HEAD {
-        return cut(bytes, head);
-    }
-    let size = Record::HEAD + u16_at(bytes, 2) as usize;
-    if bytes.len() < size {
-        return cut(bytes, Record::HEAD);
-    }
-    let end = Record::HEAD + io::read_full(0, &mut bytes[Record::HEAD..size]);
+    let size = HEAD + usize::from(u16::from_le_bytes([bytes[2], bytes[3]]));
+    let end = HEAD + io::read_full(0, &mut bytes[HEAD..size]);
     if end < size {
-        return cut(bytes, end);
+        io::write_all(1, &bytes[..end]);
+        return None;
     }
-    size
-}
-
-fn cut(bytes: &[u8], end: usize) -> usize
-    requires { end ≤ length bytes.now }
-    ensures { result ≡ 0 }
-{
-    io::write_all(1, &bytes[..end]);
-    0
+    Some(size)
 }
 
 // The table afterwards.
-fn of_record(t: Table, bytes: &[u8], made: &mut [u8]) -> Table {
-    match record::at_front(bytes) {
-        Next::NotYet => t,
-        Next::Whole(h) => {
-            if h.side == Close::SIDE {
-                io::write_all(1, bytes);
-                let closed = close(t, h.channel, h.stamp);
-                return closed.table;
-            }
-            judged(t, h, bytes, made)
+fn of_record(t: Table, bytes: &[u8], made: &mut [u8; LONGEST]) -> Table {
+    let Some(h) = record::at_front(bytes) else {
+        return t;
+    };
+    if h.side == Close::SIDE {
+        io::write_all(1, bytes);
+        return close(t, h.channel, h.stamp).table;
+    }
+    let m = &bytes[HEAD..];
+    let j = judge(t, h.channel, h.side, h.stamp, m);
+    match kind::of(j.entry) {
+        None => {
+            io::write_all(1, bytes);
+        }
+        Some(k) => {
+            io::write_all(1, &bytes[..HEAD]);
+            anew(k, m, made);
         }
     }
-}
-
-fn judged(t: Table, h: Head, bytes: &[u8], made: &mut [u8]) -> Table
-    requires { 12 ≤ length bytes.now }
-{
-    let j = judge(t, h.channel, h.side, h.stamp, &bytes[Record::HEAD..]);
-    let entry = j.entry;
-    copy(entry, bytes, made);
     j.table
 }
 
-fn copy(entry: Noted, bytes: &[u8], made: &mut [u8])
-    requires { 12 ≤ length bytes.now }
-{
-    match kind::of(entry) {
-        Passed::Nothing => {
-            io::write_all(1, bytes);
-        }
-        Passed::Is(k) => {
-            let m = &bytes[Record::HEAD..];
-            io::write_all(1, &bytes[..Record::HEAD]);
-            let written = write(MessageId::read(m, 4), read(k, m), m, made);
-            message(written, made);
-        }
-    }
-}
-
 // No message that passes is refused by the writer: if one were, it would be missing.
-fn message(written: Written, made: &[u8]) {
-    match written {
-        Written::Whole(n) => {
-            if n <= made.len() {
-                io::write_all(1, &made[..n]);
-            }
-        }
-        Written::Value => {}
-        Written::Room => {}
+fn anew(kind: Kind, m: &[u8], made: &mut [u8; LONGEST]) {
+    let size = write(MessageId::read(m, 4), read(kind, m), m, made).unwrap_or(0);
+    if let Some(written) = made.get(..size) {
+        io::write_all(1, written);
     }
 }

@@ -1,5 +1,5 @@
 -- The open request of an id.
-use Rattle.std.specs.Prelude.{ℕ, List, Bool, false, get_or, eqb}
+use Rattle.std.specs.Prelude.{ℕ, List, Bool, false, get_or, eqb, Option, Some, None}
 use Rattle.header.specs.declared.ids.RequestId.{RequestId}
 use Rattle.channel.specs.Rows.{free_row}
 use Rattle.channel.specs.declared.row.Open.{Open}
@@ -8,8 +8,6 @@ use Rattle.channel.specs.declared.row.Sort.TheVariants.{Free, Io, In, Out}
 use Rattle.channel.specs.declared.row.Row.{Row}
 use Rattle.channel.specs.declared.channel.Channel.{Channel}
 use Rattle.rows.specs.Search.{first_from}
-use Rattle.rows.specs.declared.search.Found.{Found}
-use Rattle.rows.specs.declared.search.Found.TheVariants.{At, Nothing}
 use Rattle.requests.specs.declared.open.Held.{Held}
 use Rattle.requests.specs.declared.open.Held.TheVariants as held
 
@@ -27,7 +25,7 @@ abbrev pub holds : RequestId → Row → Bool
 holds id r = holds_by id r.sort
 
 -- where an id stands twice, the lowest row counts
-abbrev pub find_of : Channel → RequestId → Found
+abbrev pub find_of : Channel → RequestId → Option ℕ
 find_of c id = first_from (holds id) c.rows 0
 
 -- what is open under an id: the request of that row, or nothing
@@ -37,9 +35,9 @@ held_by at (Io o) = held.Io at o
 held_by at (In o) = held.In at o
 held_by at (Out o) = held.Out at o
 
-abbrev pub held_at : List Row → Found → Held
-held_at rows Nothing = held.Nothing
-held_at rows (At at) = held_by at (get_or rows at free_row).sort
+abbrev pub held_at : List Row → Option ℕ → Held
+held_at rows None = held.Nothing
+held_at rows (Some at) = held_by at (get_or rows at free_row).sort
 
 unfoldable pub held_of : Channel → RequestId → Held
 held_of c id = held_at c.rows (find_of c id)

@@ -1,25 +1,15 @@
 // Whether a row is the open request of an id.
 ghost use Rattle.std.specs.Prelude.{◌≡◌};
-ghost use Rattle.requests.specs.Held.{holds, names};
+ghost use Rattle.requests.specs.Held.{holds};
 
-use channel::row::{Open, Row, Sort};
+use channel::row::{Row, Sort};
 use header::ids::RequestId;
 
 pub(crate) fn has(r: Row, id: RequestId) -> bool
     ensures { result ≡ holds id r }
 {
-    let sort = r.sort;
-    match sort {
+    match r.sort {
         Sort::Free => false,
-        Sort::Io(o) => same(o, id),
-        Sort::In(o) => same(o, id),
-        Sort::Out(o) => same(o, id),
+        Sort::Io(o) | Sort::In(o) | Sort::Out(o) => o.request == id,
     }
-}
-
-fn same(o: Open, id: RequestId) -> bool
-    ensures { result ≡ names id o }
-{
-    let request = o.request;
-    request.number() == id.number()
 }

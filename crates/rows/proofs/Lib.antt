@@ -1,3 +1,3 @@
+pub mod Chains
 pub mod Determined
 pub mod Laws
-pub mod Steps

@@ -1,5 +1,4 @@
 // What is found in the rows of a channel: the lowest free row, how many are open.
 #![tactic(auto)]
 
-mod row;
 pub mod search;

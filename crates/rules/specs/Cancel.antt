@@ -6,10 +6,9 @@ use Rattle.wire.specs.Message.{empty_part}
 use Rattle.channel.specs.declared.row.Open.{Open}
 use Rattle.requests.specs.declared.open.Held.{Held}
 use Rattle.requests.specs.declared.open.Held.TheVariants.{Nothing, Io, In, Out}
-use Rattle.rules.specs.Verdict.{accepted}
+use Rattle.rules.specs.Verdict.{Verdict, accepted}
 use Rattle.rules.specs.declared.verdict.Act.{Act}
 use Rattle.rules.specs.declared.verdict.Act.TheVariants.{Keep, Mark}
-use Rattle.rules.specs.declared.verdict.Verdict.{Verdict}
 
 -- a cancel that gets as far as the rows is accepted; its request is the id, and its size 0
 abbrev pub accepted_cancel : Kind → RequestId → ℕ → Act → Verdict

@@ -9,10 +9,9 @@ use Rattle.wire.specs.declared.message.UrbCompleted.{UrbCompleted}
 use Rattle.channel.specs.declared.row.Open.{Open}
 use Rattle.requests.specs.declared.open.Held.{Held}
 use Rattle.requests.specs.declared.open.Held.TheVariants.{Nothing, Io, In, Out}
-use Rattle.rules.specs.Verdict.{accepted, refused}
+use Rattle.rules.specs.Verdict.{Verdict, accepted, refused}
 use Rattle.answers.specs.declared.answer.Answer.TheVariants.{NotOpen, WrongSort, TooMuch, ResultDisagrees}
 use Rattle.rules.specs.declared.verdict.Act.TheVariants.{Free}
-use Rattle.rules.specs.declared.verdict.Verdict.{Verdict}
 
 -- the request's row is freed, and the number of the request's entry is the cause
 abbrev pub closes : Kind → ℕ → Open → RequestId → ℕ → Part → Verdict

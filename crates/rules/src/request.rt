@@ -3,32 +3,25 @@ ghost use Rattle.std.specs.Prelude.{◌≡◌};
 ghost use Rattle.rules.specs.Request.{opened, taken, transfer_out_decided, unacknowledged};
 
 use crate::verdict;
-use crate::verdict::{Accepted, Act, Verdict};
+use crate::verdict::{Accepted, Act, Refusal};
 use answers::answer::Answer;
 use answers::kind::Kind;
 use answers::phase;
 use channel::row::{Open, Row, Sort};
 use requests::open::Held;
-use rows::search::Found;
 use wire::message::Request;
 
-// An accepted transfer out with NoAck.
-#[derive(Clone, Copy)]
-pub(crate) struct NoAck {}
-
-impl NoAck {
-    pub(crate) const KIND: u8 = 12;
-}
+// The kind of an accepted transfer out with NoAck.
+const NO_ACK: u8 = 12;
 
 // The open request that a row holds from here on, until it is completed or withdrawn.
 #[tactic(auto, unfolding(crate::specs::Request::opened))]
 pub(crate) fn open_as(r: Request, number: u32) -> Open
     ensures { result ≡ opened r number }
 {
-    let request = r.request;
     Open {
-        request: request,
-        number: number,
+        request: r.request,
+        number,
         size: r.size,
         marked: false,
     }
@@ -36,49 +29,39 @@ pub(crate) fn open_as(r: Request, number: u32) -> Open
 
 // A request takes the lowest free row, unless its id is open (9) or no row is free (10).
 #[tactic(auto, unfolding(crate::specs::Request::taken))]
-pub(crate) fn take(kind: Kind, r: Request, sort: Sort, here: Held, free: Found) -> Verdict
+pub(crate) fn take(
+    kind: Kind,
+    r: Request,
+    sort: Sort,
+    here: Held,
+    free: Option<usize>,
+) -> Result<Accepted, Refusal>
     ensures { result ≡ taken kind r sort here free }
 {
-    match here {
-        Held::Nothing => match free {
-            Found::At(at) => {
-                let request = r.request;
-                let payload = r.payload;
-                let row = Row { sort: sort };
-                verdict::accept(
-                    kind,
-                    request.number(),
-                    0,
-                    r.size,
-                    payload,
-                    Act::Take(at, row),
-                )
-            }
-            Found::Nothing => verdict::refuse(kind, Answer::Full),
-        },
-        Held::Io(_, _) => verdict::refuse(kind, Answer::AlreadyOpen),
-        Held::In(_, _) => verdict::refuse(kind, Answer::AlreadyOpen),
-        Held::Out(_, _) => verdict::refuse(kind, Answer::AlreadyOpen),
-    }
+    let Held::Nothing = here else {
+        return verdict::refuse(kind, Answer::AlreadyOpen);
+    };
+    let Some(at) = free else {
+        return verdict::refuse(kind, Answer::Full);
+    };
+    let take = Act::Take(at, Row { sort });
+    verdict::accept(kind, r.request.number(), 0, r.size, r.payload, take)
 }
 
 // A transfer out with NoAck takes no row and skips 9 and 10. A device of 0 NoAck milliseconds bars it.
-fn no_ack(kind: Kind, r: Request, jitter: u32) -> Verdict
+fn no_ack(kind: Kind, r: Request, jitter: u32) -> Result<Accepted, Refusal>
     ensures { result ≡ unacknowledged kind r jitter }
 {
     if jitter == 0 {
         return verdict::refuse(kind, Answer::Value);
     }
-    let request = r.request;
-    let payload = r.payload;
-    let phases = phase::of(kind);
-    Verdict::Accepted(Accepted {
-        kind: NoAck::KIND,
-        request: request.number(),
+    Ok(Accepted {
+        kind: NO_ACK,
+        request: r.request.number(),
         cause: 0,
         size: r.size,
-        payload: payload,
-        phase: phases.after,
+        payload: r.payload,
+        phase: phase::of(kind).after,
         act: Act::Keep,
     })
 }
@@ -89,13 +72,12 @@ pub(crate) fn transfer_out(
     number: u32,
     jitter: u32,
     here: Held,
-    free: Found,
-) -> Verdict
+    free: Option<usize>,
+) -> Result<Accepted, Refusal>
     ensures { result ≡ transfer_out_decided kind r number jitter here free }
 {
     if r.noack {
         return no_ack(kind, r, jitter);
     }
-    let o = open_as(r, number);
-    take(kind, r, Sort::Out(o), here, free)
+    take(kind, r, Sort::Out(open_as(r, number)), here, free)
 }

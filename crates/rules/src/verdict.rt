@@ -4,9 +4,9 @@ ghost use Rattle.rules.specs.Verdict.{accepted, refused};
 
 use answers::answer::Answer;
 use answers::kind::Kind;
-use answers::{kind, phase};
+use answers::phase;
 use channel::row::Row;
-use header::ids::{InterfaceId, Known};
+use header::ids::InterfaceId;
 use words::layout::Part;
 
 // What is done to the channel, beside its phase.
@@ -15,7 +15,7 @@ pub enum Act {
     Keep,
     // the device's interface, and its NoAck milliseconds
     Device(InterfaceId, u32),
-    Callback(Known),
+    Callback(Option<InterfaceId>),
     // a request takes a free row
     Take(usize, Row),
     // a completion frees one
@@ -28,6 +28,7 @@ pub enum Act {
 // An accepted message: what its entry says (01 "Journal"), where its payload lies, the phase after it, and what is done.
 #[derive(Clone, Copy)]
 pub struct Accepted {
+    // a number: 12, an accepted transfer out with NoAck, is no `Kind`
     pub kind: u8,
     pub request: u32,
     pub cause: u32,
@@ -37,17 +38,22 @@ pub struct Accepted {
     pub act: Act,
 }
 
+// A refused message: its entry's kind, which is 0 where it has none, and why.
 #[derive(Clone, Copy)]
-pub enum Verdict {
-    // the entry's kind, and why
-    Refused(u8, Answer),
-    Accepted(Accepted),
+pub struct Refusal {
+    pub kind: u8,
+    pub answer: Answer,
 }
 
-pub(crate) fn refuse(kind: Kind, answer: Answer) -> Verdict
+pub(crate) const NO_PAYLOAD: Part = Part { start: 0, size: 0 };
+
+pub(crate) fn refuse(kind: Kind, answer: Answer) -> Result<Accepted, Refusal>
     ensures { result ≡ refused kind answer }
 {
-    Verdict::Refused(kind::number(kind), answer)
+    Err(Refusal {
+        kind: u8::from(kind),
+        answer,
+    })
 }
 
 pub(crate) fn accept(
@@ -57,17 +63,16 @@ pub(crate) fn accept(
     size: u32,
     payload: Part,
     act: Act,
-) -> Verdict
+) -> Result<Accepted, Refusal>
     ensures { result ≡ accepted kind request cause size payload act }
 {
-    let phases = phase::of(kind);
-    Verdict::Accepted(Accepted {
-        kind: kind::number(kind),
-        request: request,
-        cause: cause,
-        size: size,
-        payload: payload,
-        phase: phases.after,
-        act: act,
+    Ok(Accepted {
+        kind: u8::from(kind),
+        request,
+        cause,
+        size,
+        payload,
+        phase: phase::of(kind).after,
+        act,
     })
 }

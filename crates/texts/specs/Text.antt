@@ -1,10 +1,9 @@
 -- A counted text of ADD_DEVICE (000 2.2.4.2): a count of 16-bit units, and the units.
-use Rattle.std.specs.Prelude.{ℕ, ◌+◌, ◌-◌, ◌*◌, List, Bool, cond, ◌&&◌, eqb, leb, ltb}
+use Rattle.std.specs.Prelude.{ℕ, ◌+◌, ◌-◌, ◌*◌, List, Bool, cond, ◌&&◌, eqb, leb, ltb, Result, Ok}
 use Rattle.words.specs.Words.{half_at, word_at}
 use Rattle.words.specs.Layout.{field}
 use Rattle.texts.specs.declared.text.Text.{Text}
-use Rattle.texts.specs.declared.text.TextRead.{TextRead}
-use Rattle.texts.specs.declared.text.TextRead.TheVariants.{Fits, Fails}
+use Rattle.words.specs.declared.layout.Fault.{Fault}
 
 -- the last of n units that end at a place, and the one before it: 0 where there is none
 abbrev pub last_unit : List ℕ → ℕ → ℕ → ℕ
@@ -14,13 +13,13 @@ abbrev pub prior_unit : List ℕ → ℕ → ℕ → ℕ
 prior_unit m n end = cond (ltb n 2) 0 (half_at m (end - 4))
 
 -- n units from a place on
-unfoldable pub units_of : List ℕ → ℕ → ℕ → TextRead
+unfoldable pub units_of : List ℕ → ℕ → ℕ → Result (Text × ℕ) Fault
 units_of m start n =
-    field Fails m start (2 * n)
-    (Fits (record { count = n; units = record { start = start; size = 2 * n }; last = last_unit m n (start + 2 * n); prior = prior_unit m n (start + 2 * n) }) (start + 2 * n))
+    field m start (2 * n)
+    (Ok ((record { count = n; units = record { start = start; size = 2 * n }; last = last_unit m n (start + 2 * n); prior = prior_unit m n (start + 2 * n) }), (start + 2 * n)))
 
-unfoldable pub text_of : List ℕ → ℕ → TextRead
-text_of m at = field Fails m at 4 (units_of m (at + 4) (word_at m at))
+unfoldable pub text_of : List ℕ → ℕ → Result (Text × ℕ) Fault
+text_of m at = field m at 4 (units_of m (at + 4) (word_at m at))
 
 -- at most 512 units; it ends in unit 0, if it has one
 abbrev pub text_allowed : Text → Bool

@@ -5,8 +5,8 @@
 ghost use Rattle.std.specs.Prelude.{◌≡◌, ◌*◌, ◌≤◌, length};
 ghost use Rattle.texts.specs.Text.{text_of, last_unit, prior_unit, text_allowed, list_allowed};
 
-use words::layout::{Fault, Part};
-use words::numbers::{rest, u16_at, u32_at};
+use words::layout::{Fault, Part, field};
+use words::numbers::{u16_at, u32_at};
 
 #[derive(Clone, Copy)]
 pub struct Text {
@@ -17,43 +17,30 @@ pub struct Text {
     pub prior: u32,
 }
 
-// A text and the byte behind it.
-#[derive(Clone, Copy)]
-pub enum TextRead {
-    Fits(Text, usize),
-    Fails(Fault),
-}
-
 impl Text {
     pub const MOST: u32 = 512;
 }
 
 #[tactic(auto, unfolding(crate::specs::Text::text_of, crate::specs::Text::units_of))]
-pub fn read(m: &[u8], at: usize) -> TextRead
+pub fn read(m: &[u8], at: usize) -> Result<(Text, usize), Fault>
     ensures { result ≡ text_of m.now at }
 {
-    if rest(m, at) < 4 {
-        return TextRead::Fails(Fault::RanOut(at));
-    }
+    field(m, at, 4)?;
     let count = u32_at(m, at);
     let start = at + 4;
     let size = 2 * count as usize;
-    if rest(m, start) < size {
-        return TextRead::Fails(Fault::RanOut(start));
-    }
+    field(m, start, size)?;
     let end = start + size;
-    TextRead::Fits(
-        Text {
-            count: count,
-            units: Part {
-                start: start,
-                size: size,
-            },
-            last: last_unit(m, count, end),
-            prior: prior_unit(m, count, end),
+    let text = Text {
+        count: count,
+        units: Part {
+            start: start,
+            size: size,
         },
-        end,
-    )
+        last: last_unit(m, count, end),
+        prior: prior_unit(m, count, end),
+    };
+    Ok((text, end))
 }
 
 fn last_unit(m: &[u8], count: u32, end: usize) -> u32

@@ -1,60 +1,52 @@
 // Answers 3 to 6, which go by the message and the channel's phase and interfaces alone; then what the message asks.
 ghost use Rattle.std.specs.Prelude.{◌≡◌};
-ghost use Rattle.turn.specs.Admit.{admitted, asks_in, from_header};
+ghost use Rattle.rules.specs.Verdict.{refusal_of};
+ghost use Rattle.turn.specs.Admit.{admitted, asks_in};
 
 use answers::answer::Answer;
 use answers::kind::Kind;
-use answers::{kind, phase};
-use header::ids::Known;
+use answers::phase;
+use channel::channel::Channel;
 use header::shared_msg_header;
-use header::shared_msg_header::{Header, HeaderRead};
-use kinds::kind::{KindFound, kind_of};
-use wire::message::{Asked, ask};
+use kinds::kind::kind_of;
+use rules::verdict::Refusal;
+use wire::message::{Asked, Unfit, ask};
 
-#[derive(Clone, Copy)]
-pub enum Admitted {
-    // the entry's kind, and why
-    Refused(u8, Answer),
-    Asks(Kind, Asked),
+const LONGEST: usize = 65535;
+
+// A refusal of a message of no known kind.
+fn unknown(answer: Answer) -> Refusal
+    ensures { result ≡ refusal_of 0 answer }
+{
+    Refusal { kind: 0, answer }
 }
 
-#[derive(Clone, Copy)]
-pub struct Longest {}
-
-impl Longest {
-    pub const MESSAGE: usize = 65535;
-}
-
+// A message of a kind: it may come in some phase only.
 #[tactic(auto, unfolding(crate::specs::Admit::asks_in))]
-fn in_phase(phase: u8, kind: Kind, m: &[u8]) -> Admitted
+fn in_phase(phase: u8, kind: Kind, m: &[u8]) -> Result<(Kind, Result<Asked, Unfit>), Refusal>
     ensures { result ≡ asks_in phase kind m.now }
 {
-    let phases = phase::of(kind);
-    if phases.before != phase {
-        return Admitted::Refused(kind::number(kind), Answer::WrongPhase);
+    if phase::of(kind).before != phase {
+        return Err(Refusal {
+            kind: u8::from(kind),
+            answer: Answer::WrongPhase,
+        });
     }
-    Admitted::Asks(kind, ask(kind, m))
+    Ok((kind, ask(kind, m)))
 }
 
-#[tactic(auto, unfolding(crate::specs::Admit::from_header))]
-fn with_header(phase: u8, device: Known, callback: Known, side: u8, h: Header, m: &[u8]) -> Admitted
-    ensures { result ≡ from_header phase device callback side h m.now }
+#[tactic(auto, unfolding(crate::specs::Admit::admitted, crate::specs::Admit::from_header))]
+pub(crate) fn admit(
+    c: &Channel,
+    side: u8,
+    m: &[u8],
+) -> Result<(Kind, Result<Asked, Unfit>), Refusal>
+    ensures { result ≡ admitted c.now.phase c.now.device c.now.callback side m.now }
 {
-    if Longest::MESSAGE < m.len() {
-        return Admitted::Refused(0, Answer::Long);
+    let h = shared_msg_header::read(m).ok_or(unknown(Answer::Short))?;
+    if LONGEST < m.len() {
+        return Err(unknown(Answer::Long));
     }
-    match kind_of(h, side, device, callback) {
-        KindFound::Nothing => Admitted::Refused(0, Answer::NoKind),
-        KindFound::Is(kind) => in_phase(phase, kind, m),
-    }
-}
-
-#[tactic(auto, unfolding(crate::specs::Admit::admitted))]
-pub(crate) fn admit(phase: u8, device: Known, callback: Known, side: u8, m: &[u8]) -> Admitted
-    ensures { result ≡ admitted phase device callback side m.now }
-{
-    match shared_msg_header::read(m) {
-        HeaderRead::Short => Admitted::Refused(0, Answer::Short),
-        HeaderRead::Is(h) => with_header(phase, device, callback, side, h, m),
-    }
+    let kind = kind_of(h, side, c.device, c.callback).ok_or(unknown(Answer::NoKind))?;
+    in_phase(c.phase, kind, m)
 }

@@ -3,37 +3,32 @@ ghost use Rattle.std.specs.Prelude.{◌≡◌};
 ghost use Rattle.turn.specs.Store.{done, here_of, seen_of, stored};
 
 use channel::channel::{Channel, empty, mark, put};
-use channel::row::{Row, Sort};
-use header::ids::Known;
+use channel::row::Row;
 use requests::open::{Held, under};
 use rows::search::{count_open, lowest_free};
 use rules::decide::Seen;
 use rules::verdict::Act;
-use wire::message::Asked;
+use wire::message::{Asked, Unfit};
 
 // What is open under the RequestId of what a message asks.
 #[tactic(auto, unfolding(crate::specs::Store::here_of))]
-fn here(c: Channel, asked: Asked) -> Held
+fn here(c: Channel, asked: Result<Asked, Unfit>) -> Held
     ensures { result ≡ here_of c asked }
 {
     match asked {
-        Asked::Fails(_) => Held::Nothing,
-        Asked::Value => Held::Nothing,
-        Asked::Step => Held::Nothing,
-        Asked::Device(_, _) => Held::Nothing,
-        Asked::Callback(_) => Held::Nothing,
-        Asked::IoControl(r) => under(c, r.request),
-        Asked::TransferIn(r) => under(c, r.request),
-        Asked::TransferOut(r) => under(c, r.request),
-        Asked::Cancel(id) => under(c, id),
-        Asked::Retract => Held::Nothing,
-        Asked::IoCompletion(d) => under(c, d.request),
-        Asked::UrbCompletion(d) => under(c, d.request),
-        Asked::UrbCompletionNoData(d) => under(c, d.request),
+        Ok(Asked::IoControl(r) | Asked::TransferIn(r) | Asked::TransferOut(r)) => {
+            under(c, r.request)
+        }
+        Ok(Asked::Cancel(id)) => under(c, id),
+        Ok(Asked::IoCompletion(d)) => under(c, d.request),
+        Ok(Asked::UrbCompletion(d) | Asked::UrbCompletionNoData(d)) => under(c, d.request),
+        Ok(Asked::Step | Asked::Device(_, _) | Asked::Callback(_) | Asked::Retract) | Err(_) => {
+            Held::Nothing
+        }
     }
 }
 
-pub(crate) fn see(c: Channel, asked: Asked) -> Seen
+pub(crate) fn see(c: Channel, asked: Result<Asked, Unfit>) -> Seen
     ensures { result ≡ seen_of c asked }
 {
     Seen {
@@ -44,39 +39,19 @@ pub(crate) fn see(c: Channel, asked: Asked) -> Seen
 }
 
 // What a message's verdict has done to its channel, but for the phase.
-pub(crate) fn act_on(c: Channel, act: Act) -> Channel
+fn act_on(c: Channel, act: Act) -> Channel
     ensures { result ≡ done c act }
 {
     match act {
         Act::Keep => c,
-        Act::Device(id, ms) => {
-            let known = Known::Is(id);
-            let callback = c.callback;
-            let rows = c.rows;
-            Channel {
-                phase: c.phase,
-                device: known,
-                callback: callback,
-                jitter: ms,
-                rows: rows,
-            }
-        }
-        Act::Callback(known) => {
-            let device = c.device;
-            let rows = c.rows;
-            Channel {
-                phase: c.phase,
-                device: device,
-                callback: known,
-                jitter: c.jitter,
-                rows: rows,
-            }
-        }
+        Act::Device(id, ms) => Channel {
+            device: Some(id),
+            jitter: ms,
+            ..c
+        },
+        Act::Callback(callback) => Channel { callback, ..c },
         Act::Take(at, row) => put(c, at, row),
-        Act::Free(at) => {
-            let row = Row { sort: Sort::Free };
-            put(c, at, row)
-        }
+        Act::Free(at) => put(c, at, Row::FREE),
         Act::Mark(at) => mark(c, at),
         Act::Empty => empty(c),
     }
@@ -87,7 +62,8 @@ pub(crate) fn act_on(c: Channel, act: Act) -> Channel
 pub(crate) fn keep(c: Channel, phase: u8, act: Act) -> Channel
     ensures { result ≡ stored c phase act }
 {
-    let mut d = act_on(c, act);
-    d.phase = phase;
-    d
+    Channel {
+        phase,
+        ..act_on(c, act)
+    }
 }

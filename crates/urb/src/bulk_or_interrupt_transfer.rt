@@ -5,8 +5,8 @@
 ghost use Rattle.std.specs.Prelude.{◌≡◌};
 ghost use Rattle.urb.specs.TsUrb.{sized, bulk_or_interrupt_transfer};
 
-use crate::ts_urb::{StructureRead, Urb};
-use words::layout::Fault;
+use crate::ts_urb::Urb;
+use words::layout::{Fault, agrees};
 use words::numbers::{rest, u32_at};
 
 #[derive(Clone, Copy)]
@@ -21,17 +21,13 @@ impl BulkOrInterruptTransfer {
     pub const SIZE: usize = 16;
 }
 
-pub(crate) fn read(u: &[u8]) -> StructureRead
+pub(crate) fn read(u: &[u8]) -> Result<(Urb, usize), Fault>
     ensures { result ≡ sized bulk_or_interrupt_transfer u.now }
 {
-    if rest(u, 16) != BulkOrInterruptTransfer::SIZE {
-        return StructureRead::Fails(Fault::Disagrees(16));
-    }
-    StructureRead::Fits(
-        Urb::BulkOrInterruptTransfer(BulkOrInterruptTransfer {
-            pipe: u32_at(u, 24),
-            flags: u32_at(u, 28),
-        }),
-        u.len(),
-    )
+    agrees(rest(u, 16) == BulkOrInterruptTransfer::SIZE, 16)?;
+    let transfer = BulkOrInterruptTransfer {
+        pipe: u32_at(u, 24),
+        flags: u32_at(u, 28),
+    };
+    Ok((Urb::BulkOrInterruptTransfer(transfer), u.len()))
 }

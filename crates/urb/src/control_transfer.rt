@@ -6,8 +6,8 @@
 ghost use Rattle.std.specs.Prelude.{◌≡◌};
 ghost use Rattle.urb.specs.TsUrb.{sized, control_transfer};
 
-use crate::ts_urb::{StructureRead, Urb};
-use words::layout::{Fault, Part};
+use crate::ts_urb::Urb;
+use words::layout::{Fault, Part, agrees};
 use words::numbers::{rest, u32_at};
 
 #[derive(Clone, Copy)]
@@ -23,18 +23,14 @@ impl ControlTransfer {
     pub const SIZE: usize = 24;
 }
 
-pub(crate) fn read(u: &[u8]) -> StructureRead
+pub(crate) fn read(u: &[u8]) -> Result<(Urb, usize), Fault>
     ensures { result ≡ sized control_transfer u.now }
 {
-    if rest(u, 16) != ControlTransfer::SIZE {
-        return StructureRead::Fails(Fault::Disagrees(16));
-    }
-    StructureRead::Fits(
-        Urb::ControlTransfer(ControlTransfer {
-            pipe: u32_at(u, 24),
-            flags: u32_at(u, 28),
-            setup: Part { start: 32, size: 8 },
-        }),
-        u.len(),
-    )
+    agrees(rest(u, 16) == ControlTransfer::SIZE, 16)?;
+    let transfer = ControlTransfer {
+        pipe: u32_at(u, 24),
+        flags: u32_at(u, 28),
+        setup: Part { start: 32, size: 8 },
+    };
+    Ok((Urb::ControlTransfer(transfer), u.len()))
 }

@@ -2,8 +2,8 @@
 ghost use Rattle.std.specs.Prelude.{◌≡◌};
 ghost use Rattle.urb.specs.TsUrb.{sized, get_current_frame_number};
 
-use crate::ts_urb::{StructureRead, Urb};
-use words::layout::Fault;
+use crate::ts_urb::Urb;
+use words::layout::{Fault, agrees};
 use words::numbers::rest;
 
 #[derive(Clone, Copy)]
@@ -15,11 +15,9 @@ impl GetCurrentFrameNumber {
     pub const SIZE: usize = 8;
 }
 
-pub(crate) fn read(u: &[u8]) -> StructureRead
+pub(crate) fn read(u: &[u8]) -> Result<(Urb, usize), Fault>
     ensures { result ≡ sized get_current_frame_number u.now }
 {
-    if rest(u, 16) != GetCurrentFrameNumber::SIZE {
-        return StructureRead::Fails(Fault::Disagrees(16));
-    }
-    StructureRead::Fits(Urb::GetCurrentFrameNumber, u.len())
+    agrees(rest(u, 16) == GetCurrentFrameNumber::SIZE, 16)?;
+    Ok((Urb::GetCurrentFrameNumber, u.len()))
 }

@@ -8,18 +8,11 @@
 //    6  Padding                2
 //    8  NumberOfPipes          4  n, at most 30
 ghost use Rattle.std.specs.Prelude.{◌≡◌, ◌≤◌, ◌<◌};
-ghost use Rattle.urb.specs.Interfaces.{interface_field, pipe_field, larger, length_agrees, interfaces_of, pipes_of};
+ghost use Rattle.urb.specs.Interfaces.{interface_field, pipe_field, length_agrees, interfaces_of, pipes_of};
 
 use crate::select_configuration::SelectConfiguration;
 use words::layout::Fault;
 use words::numbers::{rest, u16_at, u32_at};
-
-// Where a list ends and the largest NumberOfPipes in it, or what broke.
-#[derive(Clone, Copy)]
-pub enum Walk {
-    End(usize, u32),
-    Fails(Fault),
-}
 
 #[derive(Clone, Copy)]
 pub struct Interfaces {}
@@ -66,12 +59,6 @@ fn pipe_field(left: usize) -> usize
     8
 }
 
-fn larger_of(a: u32, b: u32) -> u32
-    ensures { result ≡ larger a b }
-{
-    if a < b { b } else { a }
-}
-
 // Length is that of an interface with `pipes` pipes. The sum is of 64 bits, so that no pipe count makes it wrap.
 fn length_agrees(told: u32, pipes: u32) -> bool
     ensures { result ≡ length_agrees told pipes }
@@ -79,58 +66,54 @@ fn length_agrees(told: u32, pipes: u32) -> bool
     told as u64 == 12 + 12 * pipes as u64
 }
 
-// `count` interfaces from `at` on. A message may announce any count, and a frame for each of them is more stack than it may take (docs/DECISIONS.md, 13). So
+// `count` interfaces from `at` on: where they end, and the largest NumberOfPipes among them. A message may announce any count, and a frame for each of them is more stack than it may take (docs/DECISIONS.md, 13). So
 // the two readers below walk as many at a time as a list may have (01 "Bodies after the 12 bytes"): what is behind those only decides between 7 and 8.
-pub fn list(s: &[u8], at: usize, count: u32) -> Walk
+pub fn list(s: &[u8], at: usize, count: u32) -> Result<(usize, u32), Fault>
     ensures { result ≡ interfaces_of s.now count 0 at }
 {
     let mut start = at;
     let mut left = count;
     let mut most = 0;
     while SelectConfiguration::MOST_INTERFACES < left {
-        match interface(s, start, SelectConfiguration::MOST_INTERFACES, most) {
-            Walk::End(end, pipes) => {
-                start = end;
-                left -= SelectConfiguration::MOST_INTERFACES;
-                most = pipes;
-            }
-            Walk::Fails(fault) => return Walk::Fails(fault),
-        }
+        let (end, pipes) = interface(s, start, SelectConfiguration::MOST_INTERFACES, most)?;
+        start = end;
+        left -= SelectConfiguration::MOST_INTERFACES;
+        most = pipes;
     }
     interface(s, start, left, most)
 }
 
 // `left` interfaces from `at` on. The largest pipe count so far is `most`. Each interface takes a frame of each of the two readers, so `left` bounds their depth.
 #[cycle(interface_pipe)]
-pub(crate) fn interface(s: &[u8], at: usize, left: u32, most: u32) -> Walk
+pub(crate) fn interface(s: &[u8], at: usize, left: u32, most: u32) -> Result<(usize, u32), Fault>
     requires { left ≤ 32 }
     ensures { result ≡ interfaces_of s.now left most at }
 {
     if left == 0 {
-        return Walk::End(at, most);
+        return Ok((at, most));
     }
     let bytes = rest(s, at);
     if bytes < 12 {
-        return Walk::Fails(Fault::RanOut(at + interface_field(bytes)));
+        return Err(Fault::RanOut(at + interface_field(bytes)));
     }
     let pipes = u32_at(s, at + 8);
     if length_agrees(u16_at(s, at), pipes) {
-        pipe(s, at + 12, pipes, left - 1, larger_of(most, pipes))
+        pipe(s, at + 12, pipes, left - 1, most.max(pipes))
     } else {
-        Walk::Fails(Fault::Disagrees(at))
+        Err(Fault::Disagrees(at))
     }
 }
 
 // `pipes` pipes from `at` on, and then `left` interfaces. No field of a pipe is looked at, so they are passed by their number.
 #[cycle(interface_pipe)]
-fn pipe(s: &[u8], at: usize, pipes: u32, left: u32, most: u32) -> Walk
+fn pipe(s: &[u8], at: usize, pipes: u32, left: u32, most: u32) -> Result<(usize, u32), Fault>
     requires { left < 32 }
     ensures { result ≡ pipes_of s.now (interfaces_of s.now left most) pipes at }
 {
     let bytes = rest(s, at);
     let whole = bytes / 12;
     if whole < pipes as usize {
-        return Walk::Fails(Fault::RanOut(at + 12 * whole + pipe_field(bytes % 12)));
+        return Err(Fault::RanOut(at + 12 * whole + pipe_field(bytes % 12)));
     }
     interface(s, at + 12 * pipes as usize, left, most)
 }

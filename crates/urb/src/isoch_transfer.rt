@@ -9,8 +9,8 @@
 ghost use Rattle.std.specs.Prelude.{◌≡◌};
 ghost use Rattle.urb.specs.IsochTransfer.{isoch_transfer_of};
 
-use crate::ts_urb::{StructureRead, Urb};
-use words::layout::{Fault, Part};
+use crate::ts_urb::Urb;
+use words::layout::{Fault, Part, agrees};
 use words::numbers::{rest, u32_at};
 
 #[derive(Clone, Copy)]
@@ -30,30 +30,24 @@ impl IsochTransfer {
 }
 
 #[tactic(auto, unfolding(crate::specs::IsochTransfer::isoch_transfer_of))]
-pub(crate) fn read(u: &[u8]) -> StructureRead
+pub(crate) fn read(u: &[u8]) -> Result<(Urb, usize), Fault>
     ensures { result ≡ isoch_transfer_of u.now }
 {
     let size = rest(u, 16);
-    if size < 24 {
-        return StructureRead::Fails(Fault::Disagrees(16));
-    }
+    agrees(24 <= size, 16)?;
     let packets = u32_at(u, 36);
     let list = 12 * packets as usize;
-    if size != 28 + list {
-        return StructureRead::Fails(Fault::Disagrees(16));
-    }
-    StructureRead::Fits(
-        Urb::IsochTransfer(IsochTransfer {
-            pipe: u32_at(u, 24),
-            flags: u32_at(u, 28),
-            start: u32_at(u, 32),
-            packets: packets,
-            errors: u32_at(u, 40),
-            list: Part {
-                start: 44,
-                size: list,
-            },
-        }),
-        u.len(),
-    )
+    agrees(size == 28 + list, 16)?;
+    let transfer = IsochTransfer {
+        pipe: u32_at(u, 24),
+        flags: u32_at(u, 28),
+        start: u32_at(u, 32),
+        packets,
+        errors: u32_at(u, 40),
+        list: Part {
+            start: 44,
+            size: list,
+        },
+    };
+    Ok((Urb::IsochTransfer(transfer), u.len()))
 }

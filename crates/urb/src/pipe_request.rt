@@ -4,8 +4,8 @@
 ghost use Rattle.std.specs.Prelude.{◌≡◌};
 ghost use Rattle.urb.specs.TsUrb.{sized, abort_pipe};
 
-use crate::ts_urb::{StructureRead, Urb};
-use words::layout::Fault;
+use crate::ts_urb::Urb;
+use words::layout::{Fault, agrees};
 use words::numbers::{rest, u32_at};
 
 #[derive(Clone, Copy)]
@@ -21,16 +21,12 @@ impl PipeRequest {
     pub const SIZE: usize = 12;
 }
 
-pub(crate) fn read(u: &[u8]) -> StructureRead
+pub(crate) fn read(u: &[u8]) -> Result<(Urb, usize), Fault>
     ensures { result ≡ sized abort_pipe u.now }
 {
-    if rest(u, 16) != PipeRequest::SIZE {
-        return StructureRead::Fails(Fault::Disagrees(16));
-    }
-    StructureRead::Fits(
-        Urb::PipeRequest(PipeRequest {
-            pipe: u32_at(u, 24),
-        }),
-        u.len(),
-    )
+    agrees(rest(u, 16) == PipeRequest::SIZE, 16)?;
+    let request = PipeRequest {
+        pipe: u32_at(u, 24),
+    };
+    Ok((Urb::PipeRequest(request), u.len()))
 }

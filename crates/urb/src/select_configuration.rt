@@ -10,9 +10,8 @@ ghost use Rattle.std.specs.Prelude.{◌≡◌, ◌≤◌};
 ghost use Rattle.urb.specs.SelectConfiguration.{select_configuration_of, configuration_of, descriptor_of};
 
 use crate::interfaces;
-use crate::interfaces::Walk;
-use crate::ts_urb::{StructureRead, Urb};
-use words::layout::{Fault, Part};
+use crate::ts_urb::Urb;
+use words::layout::{Fault, Part, field};
 use words::numbers::{byte_at, rest, u32_at};
 
 #[derive(Clone, Copy)]
@@ -22,6 +21,7 @@ pub struct SelectConfiguration {
     pub interfaces: Part,
     // the largest NumberOfPipes of its interfaces
     pub pipes: u32,
+    // no Option: that there is one is the flag, which is kept as it came
     pub descriptor: Descriptor,
 }
 
@@ -33,13 +33,6 @@ pub struct Descriptor {
     pub second: u32,
 }
 
-// A descriptor and the byte behind it.
-#[derive(Clone, Copy)]
-pub enum DescriptorRead {
-    Fits(Descriptor, usize),
-    Fails(Fault),
-}
-
 impl SelectConfiguration {
     pub const FUNCTION: u32 = 0x0000;
 
@@ -47,77 +40,59 @@ impl SelectConfiguration {
 }
 
 #[tactic(auto, unfolding(crate::specs::SelectConfiguration::select_configuration_of))]
-pub(crate) fn read(u: &[u8]) -> StructureRead
+pub(crate) fn read(u: &[u8]) -> Result<(Urb, usize), Fault>
     ensures { result ≡ select_configuration_of u.now }
 {
-    if rest(u, 24) < 1 {
-        return StructureRead::Fails(Fault::RanOut(24));
-    }
-    if rest(u, 25) < 3 {
-        return StructureRead::Fails(Fault::RanOut(25));
-    }
-    if rest(u, 28) < 4 {
-        return StructureRead::Fails(Fault::RanOut(28));
-    }
+    field(u, 24, 1)?;
+    field(u, 25, 3)?;
+    field(u, 28, 4)?;
     let count = u32_at(u, 28);
-    match interfaces::list(u, 32, count) {
-        Walk::End(end, pipes) => configuration(u, count, end, pipes),
-        Walk::Fails(fault) => StructureRead::Fails(fault),
-    }
+    let (end, pipes) = interfaces::list(u, 32, count)?;
+    configuration(u, count, end, pipes)
 }
 
 // The configuration whose interface list ends at `end`.
 #[tactic(auto, unfolding(crate::specs::SelectConfiguration::configuration_of))]
-fn configuration(u: &[u8], count: u32, end: usize, pipes: u32) -> StructureRead
+fn configuration(u: &[u8], count: u32, end: usize, pipes: u32) -> Result<(Urb, usize), Fault>
     requires { 32 ≤ end }
     ensures { result ≡ configuration_of u.now count end pipes }
 {
     let flag = byte_at(u, 24);
-    match read_descriptor(u, flag, end) {
-        DescriptorRead::Fits(descriptor, last) => StructureRead::Fits(
-            Urb::SelectConfiguration(SelectConfiguration {
-                flag: flag,
-                count: count,
-                interfaces: Part {
-                    start: 32,
-                    size: end - 32,
-                },
-                pipes: pipes,
-                descriptor: descriptor,
-            }),
-            last,
-        ),
-        DescriptorRead::Fails(fault) => StructureRead::Fails(fault),
-    }
+    let (descriptor, last) = read_descriptor(u, flag, end)?;
+    let configuration = SelectConfiguration {
+        flag,
+        count,
+        interfaces: Part {
+            start: 32,
+            size: end - 32,
+        },
+        pipes,
+        descriptor,
+    };
+    Ok((Urb::SelectConfiguration(configuration), last))
 }
 
+// A descriptor and the byte behind it.
 #[tactic(auto, unfolding(crate::specs::SelectConfiguration::descriptor_of))]
-fn read_descriptor(u: &[u8], flag: u32, at: usize) -> DescriptorRead
+fn read_descriptor(u: &[u8], flag: u32, at: usize) -> Result<(Descriptor, usize), Fault>
     ensures { result ≡ descriptor_of u.now flag at }
 {
     if flag == 0 {
-        return DescriptorRead::Fits(
-            Descriptor {
-                part: Part { start: at, size: 0 },
-                first: 0,
-                second: 0,
-            },
-            at,
-        );
+        let none = Descriptor {
+            part: Part { start: at, size: 0 },
+            first: 0,
+            second: 0,
+        };
+        return Ok((none, at));
     }
-    let left = rest(u, at);
-    if left < 9 {
-        return DescriptorRead::Fails(Fault::RanOut(at));
-    }
-    DescriptorRead::Fits(
-        Descriptor {
-            part: Part {
-                start: at,
-                size: left,
-            },
-            first: byte_at(u, at),
-            second: byte_at(u, at + 1),
+    field(u, at, 9)?;
+    let descriptor = Descriptor {
+        part: Part {
+            start: at,
+            size: rest(u, at),
         },
-        u.len(),
-    )
+        first: byte_at(u, at),
+        second: byte_at(u, at + 1),
+    };
+    Ok((descriptor, u.len()))
 }

@@ -6,10 +6,9 @@ ghost use Rattle.std.specs.Prelude.{◌≡◌};
 ghost use Rattle.urb.specs.SelectInterface.{select_interface_of};
 
 use crate::interfaces;
-use crate::interfaces::Walk;
-use crate::ts_urb::{StructureRead, Urb};
-use words::layout::{Fault, Part};
-use words::numbers::{rest, u32_at};
+use crate::ts_urb::Urb;
+use words::layout::{Fault, Part, field};
+use words::numbers::u32_at;
 
 #[derive(Clone, Copy)]
 pub struct SelectInterface {
@@ -24,25 +23,19 @@ impl SelectInterface {
 }
 
 #[tactic(auto, unfolding(crate::specs::SelectInterface::select_interface_of))]
-pub(crate) fn read(u: &[u8]) -> StructureRead
+pub(crate) fn read(u: &[u8]) -> Result<(Urb, usize), Fault>
     ensures { result ≡ select_interface_of u.now }
 {
-    if rest(u, 24) < 4 {
-        return StructureRead::Fails(Fault::RanOut(24));
-    }
+    field(u, 24, 4)?;
     let handle = u32_at(u, 24);
-    match interfaces::interface(u, 28, 1, 0) {
-        Walk::End(end, pipes) => StructureRead::Fits(
-            Urb::SelectInterface(SelectInterface {
-                handle: handle,
-                interface: Part {
-                    start: 28,
-                    size: end - 28,
-                },
-                pipes: pipes,
-            }),
-            end,
-        ),
-        Walk::Fails(fault) => StructureRead::Fails(fault),
-    }
+    let (end, pipes) = interfaces::interface(u, 28, 1, 0)?;
+    let interface = SelectInterface {
+        handle,
+        interface: Part {
+            start: 28,
+            size: end - 28,
+        },
+        pipes,
+    };
+    Ok((Urb::SelectInterface(interface), end))
 }

@@ -20,7 +20,7 @@ use crate::{
     pipe_request, select_configuration, select_interface,
 };
 use header::ids::RequestId;
-use words::layout::Fault;
+use words::layout::{Fault, agrees};
 use words::numbers::{rest, u16_at};
 
 #[derive(Clone, Copy)]
@@ -44,79 +44,49 @@ pub struct TsUrb {
     pub urb: Urb,
 }
 
-// What is behind the header, and where its last field ends; or what broke.
-#[derive(Clone, Copy)]
-pub enum StructureRead {
-    Fits(Urb, usize),
-    Fails(Fault),
-}
-
-#[derive(Clone, Copy)]
-pub enum TsUrbRead {
-    Fits(TsUrb, usize),
-    Fails(Fault),
-}
-
 // The TsUrb of a message that is cut where its TsUrb ends. That CbTsUrb is at least 8 is the transfer's question.
 #[tactic(auto, unfolding(crate::specs::TsUrb::ts_urb_of))]
-pub fn read(u: &[u8]) -> TsUrbRead
+pub fn read(u: &[u8]) -> Result<(TsUrb, usize), Fault>
     ensures { result ≡ ts_urb_of u.now }
 {
     let size = u16_at(u, 16);
-    if size as usize != rest(u, 16) {
-        return TsUrbRead::Fails(Fault::Disagrees(16));
-    }
+    agrees(size as usize == rest(u, 16), 16)?;
     let function = u16_at(u, 18);
-    match structure(u, function) {
-        StructureRead::Fits(urb, end) => TsUrbRead::Fits(
-            TsUrb {
-                size: size,
-                function: function,
-                request: RequestId::read_urb(u, 20),
-                noack: RequestId::no_ack(u, 20),
-                urb: urb,
-            },
-            end,
-        ),
-        StructureRead::Fails(fault) => TsUrbRead::Fails(fault),
-    }
+    let (urb, end) = structure(u, function)?;
+    let ts_urb = TsUrb {
+        size,
+        function,
+        request: RequestId::read_urb(u, 20),
+        noack: RequestId::no_ack(u, 20),
+        urb,
+    };
+    Ok((ts_urb, end))
 }
 
+// What is behind the header, and where its last field ends.
 #[tactic(auto, unfolding(crate::specs::TsUrb::structure_of))]
-fn structure(u: &[u8], function: u32) -> StructureRead
+fn structure(u: &[u8], function: u32) -> Result<(Urb, usize), Fault>
     ensures { result ≡ structure_of u.now function }
 {
-    if function == SelectConfiguration::FUNCTION {
-        return select_configuration::read(u);
+    match function {
+        SelectConfiguration::FUNCTION => select_configuration::read(u),
+        SelectInterface::FUNCTION => select_interface::read(u),
+        IsochTransfer::FUNCTION => isoch_transfer::read(u),
+        _ => one_size(u, function),
     }
-    if function == SelectInterface::FUNCTION {
-        return select_interface::read(u);
-    }
-    if function == IsochTransfer::FUNCTION {
-        return isoch_transfer::read(u);
-    }
-    one_size(u, function)
 }
 
 // The functions whose TsUrb has one size: each structure tests its own.
 #[tactic(auto, unfolding(crate::specs::TsUrb::one_size_of))]
-fn one_size(u: &[u8], function: u32) -> StructureRead
+fn one_size(u: &[u8], function: u32) -> Result<(Urb, usize), Fault>
     ensures { result ≡ one_size_of u.now function }
 {
-    if function == GetCurrentFrameNumber::FUNCTION {
-        return get_current_frame_number::read(u);
+    match function {
+        GetCurrentFrameNumber::FUNCTION => get_current_frame_number::read(u),
+        PipeRequest::ABORT_PIPE | PipeRequest::SYNC_RESET_PIPE_AND_CLEAR_STALL =>
+            pipe_request::read(u),
+        BulkOrInterruptTransfer::FUNCTION => bulk_or_interrupt_transfer::read(u),
+        ControlTransfer::FUNCTION => control_transfer::read(u),
+        _ => Ok((Urb::Unknown, u.len())),
     }
-    if function == PipeRequest::ABORT_PIPE {
-        return pipe_request::read(u);
-    }
-    if function == PipeRequest::SYNC_RESET_PIPE_AND_CLEAR_STALL {
-        return pipe_request::read(u);
-    }
-    if function == BulkOrInterruptTransfer::FUNCTION {
-        return bulk_or_interrupt_transfer::read(u);
-    }
-    if function == ControlTransfer::FUNCTION {
-        return control_transfer::read(u);
-    }
-    StructureRead::Fits(Urb::Unknown, u.len())
 }

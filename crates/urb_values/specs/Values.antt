@@ -1,5 +1,5 @@
 -- The values of a TsUrb (01 "Bodies").
-use Rattle.std.specs.Prelude.{ℕ, Bool, true, false, ◌&&◌, ◌||◌, leb, eqb}
+use Rattle.std.specs.Prelude.{ℕ, Bool, true, false, ◌&&◌, ◌||◌, leb, eqb, cond, not}
 use Rattle.urb.specs.declared.select_configuration.SelectConfiguration.{SelectConfiguration}
 use Rattle.urb.specs.declared.select_interface.SelectInterface.{SelectInterface}
 use Rattle.urb.specs.declared.isoch_transfer.IsochTransfer.{IsochTransfer}
@@ -53,3 +53,11 @@ may_no_ack (urb.BulkOrInterruptTransfer b) = false
 may_no_ack (urb.ControlTransfer b) = false
 may_no_ack (urb.IsochTransfer b) = true
 may_no_ack urb.Unknown = false
+
+-- a transfer in: no NoAck; a function and counts that 01 allows; OutputBufferSize 0 where the function says so
+abbrev pub incoming_allowed : Bool → Urb → ℕ → Bool
+incoming_allowed noack urb size = not noack && (urb_allowed urb && cond (only_in urb) (eqb size 0) true)
+
+-- a transfer out: a function and counts that 01 allows, none of those that come only in kind 10; NoAck only with function 0x000A
+abbrev pub outgoing_allowed : Bool → Urb → Bool
+outgoing_allowed noack urb = urb_allowed urb && (not (only_in urb) && cond noack (may_no_ack urb) true)

@@ -1,13 +1,13 @@
 -- 000 2.2.6.1, kind 13.
-use Rattle.std.specs.Prelude.{ℕ, List}
+use Rattle.std.specs.Prelude.{ℕ, List, Result, Ok}
 use Rattle.words.specs.Words.{word_at}
 use Rattle.header.specs.Ids.{request_in}
 use Rattle.words.specs.Layout.{field, ended}
-use Rattle.wire.specs.declared.cancel_request.CancelRequestRead.{CancelRequestRead}
-use Rattle.wire.specs.declared.cancel_request.CancelRequestRead.TheVariants.{Fits, Fails}
+use Rattle.words.specs.declared.layout.Fault.{Fault}
+use Rattle.wire.specs.declared.cancel_request.CancelRequest.{CancelRequest}
 
-unfoldable pub cancel_request_of : List ℕ → CancelRequestRead
+unfoldable pub cancel_request_of : List ℕ → Result CancelRequest Fault
 cancel_request_of m =
-    field Fails m 12 4
-    (ended Fails m 16
-    (Fits (record { request = request_in (word_at m 12) })))
+    field m 12 4
+    (ended m 16
+    (Ok (record { request = request_in (word_at m 12) })))

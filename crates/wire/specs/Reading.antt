@@ -1,5 +1,5 @@
 -- The bodies of all kinds as one type, and what the size reader of each kind says of a message: its body, or at which byte the sizes fail (answer 7).
-use Rattle.std.specs.Prelude.{ℕ, List}
+use Rattle.std.specs.Prelude.{ℕ, List, Result, Ok, Err}
 use Rattle.wire.specs.CapabilityRequest.{capability_request_of}
 use Rattle.wire.specs.CapabilityResponse.{capability_response_of}
 use Rattle.wire.specs.ChannelCreated.{channel_created_of}
@@ -27,37 +27,10 @@ use Rattle.wire.specs.declared.retract_device.RetractDevice.{RetractDevice}
 use Rattle.wire.specs.declared.io_control_completion.IoControlCompletion.{IoControlCompletion}
 use Rattle.wire.specs.declared.urb_completion.UrbCompletion.{UrbCompletion}
 use Rattle.wire.specs.declared.urb_completion_no_data.UrbCompletionNoData.{UrbCompletionNoData}
-use Rattle.wire.specs.declared.capability_request.CapabilityRequestRead.{CapabilityRequestRead}
-use Rattle.wire.specs.declared.capability_request.CapabilityRequestRead.TheVariants as capability_request
-use Rattle.wire.specs.declared.capability_response.CapabilityResponseRead.{CapabilityResponseRead}
-use Rattle.wire.specs.declared.capability_response.CapabilityResponseRead.TheVariants as capability_response
-use Rattle.wire.specs.declared.channel_created.ChannelCreatedRead.{ChannelCreatedRead}
-use Rattle.wire.specs.declared.channel_created.ChannelCreatedRead.TheVariants as channel_created
-use Rattle.wire.specs.declared.add_virtual_channel.AddVirtualChannelRead.{AddVirtualChannelRead}
-use Rattle.wire.specs.declared.add_virtual_channel.AddVirtualChannelRead.TheVariants as add_virtual_channel
-use Rattle.wire.specs.declared.add_device.AddDeviceRead.{AddDeviceRead}
-use Rattle.wire.specs.declared.add_device.AddDeviceRead.TheVariants as add_device
-use Rattle.wire.specs.declared.cancel_request.CancelRequestRead.{CancelRequestRead}
-use Rattle.wire.specs.declared.cancel_request.CancelRequestRead.TheVariants as cancel_request
-use Rattle.wire.specs.declared.register_request_callback.RegisterRequestCallbackRead.{RegisterRequestCallbackRead}
-use Rattle.wire.specs.declared.register_request_callback.RegisterRequestCallbackRead.TheVariants as register_request_callback
-use Rattle.wire.specs.declared.io_control.IoControlRead.{IoControlRead}
-use Rattle.wire.specs.declared.io_control.IoControlRead.TheVariants as io_control
-use Rattle.wire.specs.declared.transfer_in_request.TransferInRequestRead.{TransferInRequestRead}
-use Rattle.wire.specs.declared.transfer_in_request.TransferInRequestRead.TheVariants as transfer_in_request
-use Rattle.wire.specs.declared.transfer_out_request.TransferOutRequestRead.{TransferOutRequestRead}
-use Rattle.wire.specs.declared.transfer_out_request.TransferOutRequestRead.TheVariants as transfer_out_request
-use Rattle.wire.specs.declared.retract_device.RetractDeviceRead.{RetractDeviceRead}
-use Rattle.wire.specs.declared.retract_device.RetractDeviceRead.TheVariants as retract_device
-use Rattle.wire.specs.declared.io_control_completion.IoControlCompletionRead.{IoControlCompletionRead}
-use Rattle.wire.specs.declared.io_control_completion.IoControlCompletionRead.TheVariants as io_control_completion
-use Rattle.wire.specs.declared.urb_completion.UrbCompletionRead.{UrbCompletionRead}
-use Rattle.wire.specs.declared.urb_completion.UrbCompletionRead.TheVariants as urb_completion
-use Rattle.wire.specs.declared.urb_completion_no_data.UrbCompletionNoDataRead.{UrbCompletionNoDataRead}
-use Rattle.wire.specs.declared.urb_completion_no_data.UrbCompletionNoDataRead.TheVariants as urb_completion_no_data
 use Rattle.words.specs.declared.layout.Fault.{Fault}
 use Rattle.answers.specs.declared.kind.Kind.{Kind}
 use Rattle.answers.specs.declared.kind.Kind.TheVariants as kind
+use Rattle.wire.specs.declared.add_virtual_channel.AddVirtualChannel.{AddVirtualChannel}
 
 pub data Body : Type 0 where
   capability_request_body : CapabilityRequest → Body
@@ -75,65 +48,55 @@ pub data Body : Type 0 where
   urb_completion_body : UrbCompletion → Body
   urb_completion_no_data_body : UrbCompletionNoData → Body
 
-pub data Reading : Type 0 where
-  Fits : Body → Reading
-  Fails : Fault → Reading
+abbrev pub Reading : Type 0
+Reading = Result Body Fault
 
-abbrev pub capability_request_reading : CapabilityRequestRead → Reading
-capability_request_reading (capability_request.Fits b) = Fits (capability_request_body b)
-capability_request_reading (capability_request.Fails fault) = Fails fault
+-- a body among those of all kinds
+abbrev pub read_as : {B : Type 0} → (B → Body) → Result B Fault → Reading
+read_as body (Ok b) = Ok (body b)
+read_as body (Err fault) = Err fault
 
-abbrev pub capability_response_reading : CapabilityResponseRead → Reading
-capability_response_reading (capability_response.Fits b) = Fits (capability_response_body b)
-capability_response_reading (capability_response.Fails fault) = Fails fault
+abbrev pub capability_request_reading : Result CapabilityRequest Fault → Reading
+capability_request_reading r = read_as capability_request_body r
 
-abbrev pub channel_created_reading : ChannelCreatedRead → Reading
-channel_created_reading (channel_created.Fits b) = Fits (channel_created_body b)
-channel_created_reading (channel_created.Fails fault) = Fails fault
+abbrev pub capability_response_reading : Result CapabilityResponse Fault → Reading
+capability_response_reading r = read_as capability_response_body r
 
-abbrev pub add_virtual_channel_reading : AddVirtualChannelRead → Reading
-add_virtual_channel_reading add_virtual_channel.Fits = Fits add_virtual_channel_body
-add_virtual_channel_reading (add_virtual_channel.Fails fault) = Fails fault
+abbrev pub channel_created_reading : Result ChannelCreated Fault → Reading
+channel_created_reading r = read_as channel_created_body r
 
-abbrev pub add_device_reading : AddDeviceRead → Reading
-add_device_reading (add_device.Fits b) = Fits (add_device_body b)
-add_device_reading (add_device.Fails fault) = Fails fault
+abbrev pub add_virtual_channel_reading : Result AddVirtualChannel Fault → Reading
+add_virtual_channel_reading r = read_as (λ b. add_virtual_channel_body) r
 
-abbrev pub cancel_request_reading : CancelRequestRead → Reading
-cancel_request_reading (cancel_request.Fits b) = Fits (cancel_request_body b)
-cancel_request_reading (cancel_request.Fails fault) = Fails fault
+abbrev pub add_device_reading : Result AddDevice Fault → Reading
+add_device_reading r = read_as add_device_body r
 
-abbrev pub register_request_callback_reading : RegisterRequestCallbackRead → Reading
-register_request_callback_reading (register_request_callback.Fits b) = Fits (register_request_callback_body b)
-register_request_callback_reading (register_request_callback.Fails fault) = Fails fault
+abbrev pub cancel_request_reading : Result CancelRequest Fault → Reading
+cancel_request_reading r = read_as cancel_request_body r
 
-abbrev pub io_control_reading : IoControlRead → Reading
-io_control_reading (io_control.Fits b) = Fits (io_control_body b)
-io_control_reading (io_control.Fails fault) = Fails fault
+abbrev pub register_request_callback_reading : Result RegisterRequestCallback Fault → Reading
+register_request_callback_reading r = read_as register_request_callback_body r
 
-abbrev pub transfer_in_request_reading : TransferInRequestRead → Reading
-transfer_in_request_reading (transfer_in_request.Fits b) = Fits (transfer_in_request_body b)
-transfer_in_request_reading (transfer_in_request.Fails fault) = Fails fault
+abbrev pub io_control_reading : Result IoControl Fault → Reading
+io_control_reading r = read_as io_control_body r
 
-abbrev pub transfer_out_request_reading : TransferOutRequestRead → Reading
-transfer_out_request_reading (transfer_out_request.Fits b) = Fits (transfer_out_request_body b)
-transfer_out_request_reading (transfer_out_request.Fails fault) = Fails fault
+abbrev pub transfer_in_request_reading : Result TransferInRequest Fault → Reading
+transfer_in_request_reading r = read_as transfer_in_request_body r
 
-abbrev pub retract_device_reading : RetractDeviceRead → Reading
-retract_device_reading (retract_device.Fits b) = Fits (retract_device_body b)
-retract_device_reading (retract_device.Fails fault) = Fails fault
+abbrev pub transfer_out_request_reading : Result TransferOutRequest Fault → Reading
+transfer_out_request_reading r = read_as transfer_out_request_body r
 
-abbrev pub io_control_completion_reading : IoControlCompletionRead → Reading
-io_control_completion_reading (io_control_completion.Fits b) = Fits (io_control_completion_body b)
-io_control_completion_reading (io_control_completion.Fails fault) = Fails fault
+abbrev pub retract_device_reading : Result RetractDevice Fault → Reading
+retract_device_reading r = read_as retract_device_body r
 
-abbrev pub urb_completion_reading : UrbCompletionRead → Reading
-urb_completion_reading (urb_completion.Fits b) = Fits (urb_completion_body b)
-urb_completion_reading (urb_completion.Fails fault) = Fails fault
+abbrev pub io_control_completion_reading : Result IoControlCompletion Fault → Reading
+io_control_completion_reading r = read_as io_control_completion_body r
 
-abbrev pub urb_completion_no_data_reading : UrbCompletionNoDataRead → Reading
-urb_completion_no_data_reading (urb_completion_no_data.Fits b) = Fits (urb_completion_no_data_body b)
-urb_completion_no_data_reading (urb_completion_no_data.Fails fault) = Fails fault
+abbrev pub urb_completion_reading : Result UrbCompletion Fault → Reading
+urb_completion_reading r = read_as urb_completion_body r
+
+abbrev pub urb_completion_no_data_reading : Result UrbCompletionNoData Fault → Reading
+urb_completion_no_data_reading r = read_as urb_completion_no_data_body r
 
 -- what the reader of each kind says
 unfoldable pub reading_of : Kind → List ℕ → Reading

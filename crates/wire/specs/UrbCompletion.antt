@@ -1,25 +1,22 @@
 -- URB_COMPLETION (000 2.2.7.2), kind 16.
-use Rattle.std.specs.Prelude.{ℕ, ◌+◌, List, Bool, not, eqb}
+use Rattle.std.specs.Prelude.{ℕ, ◌+◌, List, Bool, not, eqb, Result, Ok, Err}
 use Rattle.words.specs.Layout.{field, ended}
 use Rattle.wire.specs.TsUrbResult.{completion_of}
 use Rattle.wire.specs.declared.ts_urb_result.Completion.{Completion}
-use Rattle.wire.specs.declared.ts_urb_result.CompletionRead.{CompletionRead}
-use Rattle.wire.specs.declared.ts_urb_result.CompletionRead.TheVariants as completion
 use Rattle.wire.specs.declared.urb_completion.UrbCompletion.{UrbCompletion}
-use Rattle.wire.specs.declared.urb_completion.UrbCompletionRead.{UrbCompletionRead}
-use Rattle.wire.specs.declared.urb_completion.UrbCompletionRead.TheVariants.{Fits, Fails}
+use Rattle.words.specs.declared.layout.Fault.{Fault}
 
-unfoldable pub with_output_of : List ℕ → Completion → UrbCompletionRead
+unfoldable pub with_output_of : List ℕ → Completion → Result UrbCompletion Fault
 with_output_of m c =
-    field Fails m c.after c.size
-    (ended Fails m (c.after + c.size)
-    (Fits (record { request = c.request; urb = c.urb; result = c.result; size = c.size; output = record { start = c.after; size = c.size } })))
+    field m c.after c.size
+    (ended m (c.after + c.size)
+    (Ok (record { request = c.request; urb = c.urb; result = c.result; size = c.size; output = record { start = c.after; size = c.size } })))
 
-abbrev pub with_output_from : List ℕ → CompletionRead → UrbCompletionRead
-with_output_from m (completion.Fits c) = with_output_of m c
-with_output_from m (completion.Fails fault) = Fails fault
+abbrev pub with_output_from : List ℕ → Result Completion Fault → Result UrbCompletion Fault
+with_output_from m (Ok c) = with_output_of m c
+with_output_from m (Err fault) = Err fault
 
-unfoldable pub urb_completion_of : List ℕ → UrbCompletionRead
+unfoldable pub urb_completion_of : List ℕ → Result UrbCompletion Fault
 urb_completion_of m = with_output_from m (completion_of m)
 
 -- OutputBufferSize 0 gives 8

@@ -7,19 +7,20 @@
 //       CompatibilityIds       a counted list of texts
 //       ContainerId            a counted text
 //       UsbDeviceCapabilities  28
-ghost use Rattle.std.specs.Prelude.{◌≡◌};
-ghost use Rattle.wire.specs.Message.{asks_by};
-ghost use Rattle.wire.specs.Reading.{add_device_reading};
+ghost use Rattle.std.specs.Prelude.{◌≡◌, refl};
+ghost use Rattle.wire.specs.Reading.{add_device_body};
+ghost use Rattle.wire.specs.declared.message.Asked.TheVariants as asks;
 ghost use Rattle.wire.specs.AddDevice.{add_device_of, pair_of, device_of, text_pair_allowed, add_device_allowed};
 
+use crate::body::MessageBody;
 use crate::message::Asked;
 use device::device_capabilities;
-use device::device_capabilities::{CapabilitiesRead, DeviceCapabilities};
+use device::device_capabilities::DeviceCapabilities;
 use header::ids::InterfaceId;
 use texts::text;
-use texts::text::{Text, TextRead};
-use words::layout::Fault;
-use words::numbers::{rest, u32_at};
+use texts::text::Text;
+use words::layout::{Fault, ended, field};
+use words::numbers::u32_at;
 
 // A text and the list or text behind it: the instance id with the hardware ids, or the compatible ids with the container id.
 #[derive(Clone, Copy)]
@@ -41,12 +42,6 @@ pub struct AddDevice {
     pub capabilities: DeviceCapabilities,
 }
 
-#[derive(Clone, Copy)]
-pub enum AddDeviceRead {
-    Fits(AddDevice),
-    Fails(Fault),
-}
-
 impl AddDevice {
     pub const MASK: u32 = 1;
 
@@ -55,126 +50,71 @@ impl AddDevice {
     pub const FUNCTION: u32 = 0x101;
 }
 
-// Two texts and the byte behind them.
-#[derive(Clone, Copy)]
-pub enum PairRead {
-    Fits(TextPair, usize),
-    Fails(Fault),
+impl MessageBody for AddDevice {
+    ghost reading = { add_device_of };
+
+    ghost fits = { add_device_allowed };
+
+    ghost asks = { λ b. asks.Device b.device b.capabilities.jitter };
+
+    ghost body = { add_device_body };
+
+    #[tactic(auto, unfolding(crate::specs::AddDevice::add_device_of))]
+    fn read(m: &[u8]) -> Result<AddDevice, Fault> {
+        field(m, 12, 4)?;
+        field(m, 16, 4)?;
+        let (names, middle) = pair(m, 20)?;
+        let (classes, end) = pair(m, middle)?;
+        device(m, names, classes, end)
+    }
+
+    #[tactic(auto, unfolding(crate::specs::AddDevice::add_device_allowed))]
+    fn allowed(self) -> bool {
+        self.count == 1
+            && self.device.assignable()
+            && pair_allowed(self.instance, self.hardware)
+            && pair_allowed(self.container, self.compatible)
+            && device_capabilities::allowed(self.capabilities)
+    }
+
+    fn asked(self) -> Asked {
+        Asked::Device(self.device, self.capabilities.jitter)
+    }
+
+    ghost says = { λ b. refl };
 }
 
-#[tactic(auto, unfolding(crate::specs::AddDevice::add_device_of))]
-pub(crate) fn read(m: &[u8]) -> AddDeviceRead
-    ensures { result ≡ add_device_of m.now }
-{
-    if rest(m, 12) < 4 {
-        return AddDeviceRead::Fails(Fault::RanOut(12));
-    }
-    if rest(m, 16) < 4 {
-        return AddDeviceRead::Fails(Fault::RanOut(16));
-    }
-    match pair(m, 20) {
-        PairRead::Fits(names, middle) => match pair(m, middle) {
-            PairRead::Fits(classes, end) => device(m, names, classes, end),
-            PairRead::Fails(fault) => AddDeviceRead::Fails(fault),
-        },
-        PairRead::Fails(fault) => AddDeviceRead::Fails(fault),
-    }
-}
-
+// Two texts, one behind the other, and the byte behind them.
 #[tactic(auto, unfolding(crate::specs::AddDevice::pair_of))]
-fn pair(m: &[u8], at: usize) -> PairRead
+fn pair(m: &[u8], at: usize) -> Result<(TextPair, usize), Fault>
     ensures { result ≡ pair_of m.now at }
 {
-    match text::read(m, at) {
-        TextRead::Fits(first, middle) => match text::read(m, middle) {
-            TextRead::Fits(second, end) => PairRead::Fits(
-                TextPair {
-                    first: first,
-                    second: second,
-                },
-                end,
-            ),
-            TextRead::Fails(fault) => PairRead::Fails(fault),
-        },
-        TextRead::Fails(fault) => PairRead::Fails(fault),
-    }
+    let (first, middle) = text::read(m, at)?;
+    let (second, end) = text::read(m, middle)?;
+    Ok((TextPair { first, second }, end))
 }
 
 // The device, whose texts end at `at`.
 #[tactic(auto, unfolding(crate::specs::AddDevice::device_of))]
-fn device(m: &[u8], names: TextPair, classes: TextPair, at: usize) -> AddDeviceRead
+fn device(m: &[u8], names: TextPair, classes: TextPair, at: usize) -> Result<AddDevice, Fault>
     ensures { result ≡ device_of m.now names classes at }
 {
-    match device_capabilities::read(m, at) {
-        CapabilitiesRead::Fails(fault) => AddDeviceRead::Fails(fault),
-        CapabilitiesRead::Fits(capabilities, end) => {
-            if 0 < rest(m, end) {
-                return AddDeviceRead::Fails(Fault::LeftOver(end));
-            }
-            let instance = names.first;
-            let hardware = names.second;
-            let compatible = classes.first;
-            let container = classes.second;
-            AddDeviceRead::Fits(AddDevice {
-                count: u32_at(m, 12),
-                device: InterfaceId::read(m, 16),
-                top: InterfaceId::mask(m, 16),
-                instance: instance,
-                hardware: hardware,
-                compatible: compatible,
-                container: container,
-                capabilities: capabilities,
-            })
-        }
-    }
-}
-
-#[tactic(auto, unfolding(crate::specs::AddDevice::add_device_allowed))]
-pub(crate) fn allowed(b: AddDevice) -> bool
-    ensures { result ≡ add_device_allowed b }
-{
-    if b.count != 1 {
-        return false;
-    }
-    let device = b.device;
-    if !device.assignable() {
-        return false;
-    }
-    let instance = b.instance;
-    let hardware = b.hardware;
-    if !pair_allowed(instance, hardware) {
-        return false;
-    }
-    let compatible = b.compatible;
-    let container = b.container;
-    if !pair_allowed(container, compatible) {
-        return false;
-    }
-    let capabilities = b.capabilities;
-    device_capabilities::allowed(capabilities)
+    let (capabilities, end) = device_capabilities::read(m, at)?;
+    ended(m, end)?;
+    Ok(AddDevice {
+        count: u32_at(m, 12),
+        device: InterfaceId::read(m, 16),
+        top: InterfaceId::mask(m, 16),
+        instance: names.first,
+        hardware: names.second,
+        compatible: classes.first,
+        container: classes.second,
+        capabilities,
+    })
 }
 
 fn pair_allowed(single: Text, list: Text) -> bool
     ensures { result ≡ text_pair_allowed single list }
 {
-    if !text::allowed(single) {
-        return false;
-    }
-    text::list_allowed(list)
-}
-
-pub(crate) fn ask(m: &[u8]) -> Asked
-    ensures { result ≡ asks_by (add_device_reading (add_device_of m.now)) }
-{
-    match read(m) {
-        AddDeviceRead::Fits(b) => {
-            if !allowed(b) {
-                return Asked::Value;
-            }
-            let device = b.device;
-            let capabilities = b.capabilities;
-            Asked::Device(device, capabilities.jitter)
-        }
-        AddDeviceRead::Fails(fault) => Asked::Fails(fault),
-    }
+    text::allowed(single) && text::list_allowed(list)
 }

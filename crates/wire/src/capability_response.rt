@@ -2,26 +2,21 @@
 //
 //    8  CapabilityValue  4  1
 //   12  Result           4  top bit clear
-ghost use Rattle.std.specs.Prelude.{◌≡◌};
-ghost use Rattle.wire.specs.Message.{asks_by};
-ghost use Rattle.wire.specs.Reading.{capability_response_reading};
+ghost use Rattle.std.specs.Prelude.{refl};
+ghost use Rattle.wire.specs.Reading.{capability_response_body};
+ghost use Rattle.wire.specs.declared.message.Asked.TheVariants as asks;
 ghost use Rattle.wire.specs.CapabilityResponse.{capability_response_of, capability_response_allowed};
 
+use crate::body::MessageBody;
 use crate::message::Asked;
 use words::hresult::is_success;
-use words::layout::Fault;
-use words::numbers::{rest, u32_at};
+use words::layout::{Fault, ended, field};
+use words::numbers::u32_at;
 
 #[derive(Clone, Copy)]
 pub struct CapabilityResponse {
     pub capability: u32,
     pub result: u32,
-}
-
-#[derive(Clone, Copy)]
-pub enum CapabilityResponseRead {
-    Fits(CapabilityResponse),
-    Fails(Fault),
 }
 
 impl CapabilityResponse {
@@ -30,44 +25,33 @@ impl CapabilityResponse {
     pub const INTERFACE: u32 = 0;
 }
 
-#[tactic(auto, unfolding(crate::specs::CapabilityResponse::capability_response_of))]
-pub(crate) fn read(m: &[u8]) -> CapabilityResponseRead
-    ensures { result ≡ capability_response_of m.now }
-{
-    if rest(m, 8) < 4 {
-        return CapabilityResponseRead::Fails(Fault::RanOut(8));
-    }
-    if rest(m, 12) < 4 {
-        return CapabilityResponseRead::Fails(Fault::RanOut(12));
-    }
-    if 0 < rest(m, 16) {
-        return CapabilityResponseRead::Fails(Fault::LeftOver(16));
-    }
-    CapabilityResponseRead::Fits(CapabilityResponse {
-        capability: u32_at(m, 8),
-        result: u32_at(m, 12),
-    })
-}
+impl MessageBody for CapabilityResponse {
+    ghost reading = { capability_response_of };
 
-pub(crate) fn allowed(b: CapabilityResponse) -> bool
-    ensures { result ≡ capability_response_allowed b }
-{
-    if b.capability != 1 {
-        return false;
-    }
-    is_success(b.result)
-}
+    ghost fits = { capability_response_allowed };
 
-pub(crate) fn ask(m: &[u8]) -> Asked
-    ensures { result ≡ asks_by (capability_response_reading (capability_response_of m.now)) }
-{
-    match read(m) {
-        CapabilityResponseRead::Fits(b) => {
-            if !allowed(b) {
-                return Asked::Value;
-            }
-            Asked::Step
-        }
-        CapabilityResponseRead::Fails(fault) => Asked::Fails(fault),
+    ghost asks = { λ b. asks.Step };
+
+    ghost body = { capability_response_body };
+
+    #[tactic(auto, unfolding(crate::specs::CapabilityResponse::capability_response_of))]
+    fn read(m: &[u8]) -> Result<CapabilityResponse, Fault> {
+        field(m, 8, 4)?;
+        field(m, 12, 4)?;
+        ended(m, 16)?;
+        Ok(CapabilityResponse {
+            capability: u32_at(m, 8),
+            result: u32_at(m, 12),
+        })
     }
+
+    fn allowed(self) -> bool {
+        self.capability == 1 && is_success(self.result)
+    }
+
+    fn asked(self) -> Asked {
+        Asked::Step
+    }
+
+    ghost says = { λ b. refl };
 }

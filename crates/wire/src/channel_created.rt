@@ -3,26 +3,21 @@
 //   12  MajorVersion  4  1
 //   16  MinorVersion  4  0
 //   20  Capabilities  4  0
-ghost use Rattle.std.specs.Prelude.{◌≡◌};
-ghost use Rattle.wire.specs.Message.{asks_by};
-ghost use Rattle.wire.specs.Reading.{channel_created_reading};
+ghost use Rattle.std.specs.Prelude.{refl};
+ghost use Rattle.wire.specs.Reading.{channel_created_body};
+ghost use Rattle.wire.specs.declared.message.Asked.TheVariants as asks;
 ghost use Rattle.wire.specs.ChannelCreated.{channel_created_of, channel_created_allowed};
 
+use crate::body::MessageBody;
 use crate::message::Asked;
-use words::layout::Fault;
-use words::numbers::{rest, u32_at};
+use words::layout::{Fault, ended, field};
+use words::numbers::u32_at;
 
 #[derive(Clone, Copy)]
 pub struct ChannelCreated {
     pub major: u32,
     pub minor: u32,
     pub capabilities: u32,
-}
-
-#[derive(Clone, Copy)]
-pub enum ChannelCreatedRead {
-    Fits(ChannelCreated),
-    Fails(Fault),
 }
 
 impl ChannelCreated {
@@ -35,51 +30,35 @@ impl ChannelCreated {
     pub const FUNCTION: u32 = 0x100;
 }
 
-#[tactic(auto, unfolding(crate::specs::ChannelCreated::channel_created_of))]
-pub(crate) fn read(m: &[u8]) -> ChannelCreatedRead
-    ensures { result ≡ channel_created_of m.now }
-{
-    if rest(m, 12) < 4 {
-        return ChannelCreatedRead::Fails(Fault::RanOut(12));
-    }
-    if rest(m, 16) < 4 {
-        return ChannelCreatedRead::Fails(Fault::RanOut(16));
-    }
-    if rest(m, 20) < 4 {
-        return ChannelCreatedRead::Fails(Fault::RanOut(20));
-    }
-    if 0 < rest(m, 24) {
-        return ChannelCreatedRead::Fails(Fault::LeftOver(24));
-    }
-    ChannelCreatedRead::Fits(ChannelCreated {
-        major: u32_at(m, 12),
-        minor: u32_at(m, 16),
-        capabilities: u32_at(m, 20),
-    })
-}
+impl MessageBody for ChannelCreated {
+    ghost reading = { channel_created_of };
 
-pub(crate) fn allowed(b: ChannelCreated) -> bool
-    ensures { result ≡ channel_created_allowed b }
-{
-    if b.major != 1 {
-        return false;
-    }
-    if b.minor != 0 {
-        return false;
-    }
-    b.capabilities == 0
-}
+    ghost fits = { channel_created_allowed };
 
-pub(crate) fn ask(m: &[u8]) -> Asked
-    ensures { result ≡ asks_by (channel_created_reading (channel_created_of m.now)) }
-{
-    match read(m) {
-        ChannelCreatedRead::Fits(b) => {
-            if !allowed(b) {
-                return Asked::Value;
-            }
-            Asked::Step
-        }
-        ChannelCreatedRead::Fails(fault) => Asked::Fails(fault),
+    ghost asks = { λ b. asks.Step };
+
+    ghost body = { channel_created_body };
+
+    #[tactic(auto, unfolding(crate::specs::ChannelCreated::channel_created_of))]
+    fn read(m: &[u8]) -> Result<ChannelCreated, Fault> {
+        field(m, 12, 4)?;
+        field(m, 16, 4)?;
+        field(m, 20, 4)?;
+        ended(m, 24)?;
+        Ok(ChannelCreated {
+            major: u32_at(m, 12),
+            minor: u32_at(m, 16),
+            capabilities: u32_at(m, 20),
+        })
     }
+
+    fn allowed(self) -> bool {
+        self.major == 1 && self.minor == 0 && self.capabilities == 0
+    }
+
+    fn asked(self) -> Asked {
+        Asked::Step
+    }
+
+    ghost says = { λ b. refl };
 }

@@ -3,6 +3,7 @@
 
 pub mod add_device;
 pub mod add_virtual_channel;
+mod body;
 pub mod cancel_request;
 pub mod capability_request;
 pub mod capability_response;

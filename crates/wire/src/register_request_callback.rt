@@ -2,28 +2,23 @@
 //
 //   12  NumRequestCompletion  4
 //   16  RequestCompletion     4  only where the count is not 0; its low 30 bits are an interface, 4 or above
-ghost use Rattle.std.specs.Prelude.{◌≡◌};
-ghost use Rattle.wire.specs.Message.{asks_by};
-ghost use Rattle.wire.specs.Reading.{register_request_callback_reading};
+ghost use Rattle.std.specs.Prelude.{refl};
+ghost use Rattle.wire.specs.Reading.{register_request_callback_body};
+ghost use Rattle.wire.specs.declared.message.Asked.TheVariants as asks;
 ghost use Rattle.wire.specs.RegisterRequestCallback.{register_request_callback_of, register_request_callback_allowed};
 
+use crate::body::MessageBody;
 use crate::message::Asked;
-use header::ids::{InterfaceId, Known};
-use words::layout::Fault;
-use words::numbers::{rest, u32_at};
+use header::ids::InterfaceId;
+use words::layout::{Fault, ended, field};
+use words::numbers::u32_at;
 
 #[derive(Clone, Copy)]
 pub struct RegisterRequestCallback {
     pub count: u32,
-    pub callback: Known,
+    pub callback: Option<InterfaceId>,
     // the top 2 bits of RequestCompletion, which are no part of the interface; 0 where it is not there
     pub top: u32,
-}
-
-#[derive(Clone, Copy)]
-pub enum RegisterRequestCallbackRead {
-    Fits(RegisterRequestCallback),
-    Fails(Fault),
 }
 
 impl RegisterRequestCallback {
@@ -32,58 +27,46 @@ impl RegisterRequestCallback {
     pub const FUNCTION: u32 = 0x101;
 }
 
-#[tactic(auto, unfolding(crate::specs::RegisterRequestCallback::register_request_callback_of))]
-pub(crate) fn read(m: &[u8]) -> RegisterRequestCallbackRead
-    ensures { result ≡ register_request_callback_of m.now }
-{
-    if rest(m, 12) < 4 {
-        return RegisterRequestCallbackRead::Fails(Fault::RanOut(12));
-    }
-    let count = u32_at(m, 12);
-    if count == 0 {
-        if 0 < rest(m, 16) {
-            return RegisterRequestCallbackRead::Fails(Fault::LeftOver(16));
-        }
-        return RegisterRequestCallbackRead::Fits(RegisterRequestCallback {
-            count: count,
-            callback: Known::Nothing,
-            top: 0,
-        });
-    }
-    if rest(m, 16) < 4 {
-        return RegisterRequestCallbackRead::Fails(Fault::RanOut(16));
-    }
-    if 0 < rest(m, 20) {
-        return RegisterRequestCallbackRead::Fails(Fault::LeftOver(20));
-    }
-    RegisterRequestCallbackRead::Fits(RegisterRequestCallback {
-        count: count,
-        callback: Known::Is(InterfaceId::read(m, 16)),
-        top: InterfaceId::mask(m, 16),
-    })
-}
+impl MessageBody for RegisterRequestCallback {
+    ghost reading = { register_request_callback_of };
 
-pub(crate) fn allowed(b: RegisterRequestCallback) -> bool
-    ensures { result ≡ register_request_callback_allowed b }
-{
-    let callback = b.callback;
-    match callback {
-        Known::Nothing => true,
-        Known::Is(id) => id.assignable(),
-    }
-}
+    ghost fits = { register_request_callback_allowed };
 
-pub(crate) fn ask(m: &[u8]) -> Asked
-    ensures { result ≡ asks_by (register_request_callback_reading (register_request_callback_of m.now)) }
-{
-    match read(m) {
-        RegisterRequestCallbackRead::Fits(b) => {
-            if !allowed(b) {
-                return Asked::Value;
-            }
-            let callback = b.callback;
-            Asked::Callback(callback)
+    ghost asks = { λ b. asks.Callback b.callback };
+
+    ghost body = { register_request_callback_body };
+
+    #[tactic(auto, unfolding(crate::specs::RegisterRequestCallback::register_request_callback_of))]
+    fn read(m: &[u8]) -> Result<RegisterRequestCallback, Fault> {
+        field(m, 12, 4)?;
+        let count = u32_at(m, 12);
+        if count == 0 {
+            ended(m, 16)?;
+            return Ok(RegisterRequestCallback {
+                count,
+                callback: None,
+                top: 0,
+            });
         }
-        RegisterRequestCallbackRead::Fails(fault) => Asked::Fails(fault),
+        field(m, 16, 4)?;
+        ended(m, 20)?;
+        Ok(RegisterRequestCallback {
+            count,
+            callback: Some(InterfaceId::read(m, 16)),
+            top: InterfaceId::mask(m, 16),
+        })
     }
+
+    fn allowed(self) -> bool {
+        match self.callback {
+            None => true,
+            Some(id) => id.assignable(),
+        }
+    }
+
+    fn asked(self) -> Asked {
+        Asked::Callback(self.callback)
+    }
+
+    ghost says = { λ b. refl };
 }

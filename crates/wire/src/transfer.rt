@@ -7,9 +7,9 @@ ghost use Rattle.std.specs.Prelude.{◌≡◌, ◌≤◌, length};
 ghost use Rattle.wire.specs.Transfer.{transfer_of, output_of};
 
 use urb::ts_urb;
-use urb::ts_urb::{TsUrb, TsUrbRead};
-use words::layout::Fault;
-use words::numbers::{rest, u32_at};
+use urb::ts_urb::TsUrb;
+use words::layout::{Fault, agrees, field};
+use words::numbers::u32_at;
 
 #[derive(Clone, Copy)]
 pub struct Transfer {
@@ -22,44 +22,28 @@ pub struct Transfer {
     pub after: usize,
 }
 
-#[derive(Clone, Copy)]
-pub enum TransferRead {
-    Fits(Transfer),
-    Fails(Fault),
-}
-
 #[tactic(auto, unfolding(crate::specs::Transfer::transfer_of, crate::specs::Transfer::transfer_with))]
-pub(crate) fn read(m: &[u8]) -> TransferRead
+pub(crate) fn read(m: &[u8]) -> Result<Transfer, Fault>
     ensures { result ≡ transfer_of m.now }
 {
-    if rest(m, 12) < 4 {
-        return TransferRead::Fails(Fault::RanOut(12));
-    }
+    field(m, 12, 4)?;
     let size = u32_at(m, 12) as usize;
-    if size < 8 {
-        return TransferRead::Fails(Fault::Disagrees(12));
-    }
-    if rest(m, 16) < size {
-        return TransferRead::Fails(Fault::RanOut(16));
-    }
+    agrees(8 <= size, 12)?;
+    field(m, 16, size)?;
     let end = 16 + size;
-    match ts_urb::read(&m[..end]) {
-        TsUrbRead::Fits(urb, last) => output(m, urb, last, end),
-        TsUrbRead::Fails(fault) => TransferRead::Fails(fault),
-    }
+    let (urb, last) = ts_urb::read(&m[..end])?;
+    output(m, urb, last, end)
 }
 
 #[tactic(auto, unfolding(crate::specs::Transfer::output_of))]
-fn output(m: &[u8], urb: TsUrb, last: usize, end: usize) -> TransferRead
+fn output(m: &[u8], urb: TsUrb, last: usize, end: usize) -> Result<Transfer, Fault>
     ensures { result ≡ output_of m.now urb last end }
 {
-    if rest(m, end) < 4 {
-        return TransferRead::Fails(Fault::RanOut(end));
-    }
-    TransferRead::Fits(Transfer {
-        urb: urb,
-        last: last,
-        end: end,
+    field(m, end, 4)?;
+    Ok(Transfer {
+        urb,
+        last,
+        end,
         size: u32_at(m, end),
         after: end + 4,
     })

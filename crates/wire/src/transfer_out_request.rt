@@ -4,18 +4,18 @@
 //   16  TsUrb             CbTsUrb
 //    e  OutputBufferSize  4
 //  e+4  OutputBuffer      OutputBufferSize
-ghost use Rattle.std.specs.Prelude.{◌≡◌};
-ghost use Rattle.wire.specs.Message.{asks_by};
-ghost use Rattle.wire.specs.Reading.{transfer_out_request_reading};
+ghost use Rattle.std.specs.Prelude.{◌≡◌, refl};
+ghost use Rattle.wire.specs.Reading.{transfer_out_request_body};
+ghost use Rattle.wire.specs.declared.message.Asked.TheVariants as asks;
 ghost use Rattle.wire.specs.TransferOutRequest.{transfer_out_request_of, outgoing_of, transfer_out_request_allowed};
 
+use crate::body::MessageBody;
 use crate::message::{Asked, Request};
 use crate::transfer;
-use crate::transfer::{Transfer, TransferRead};
+use crate::transfer::Transfer;
 use urb::ts_urb::TsUrb;
 use urb_values::values;
-use words::layout::{Fault, Part};
-use words::numbers::rest;
+use words::layout::{Fault, Part, ended, field};
 
 #[derive(Clone, Copy)]
 pub struct TransferOutRequest {
@@ -24,91 +24,59 @@ pub struct TransferOutRequest {
     pub output: Part,
 }
 
-#[derive(Clone, Copy)]
-pub enum TransferOutRequestRead {
-    Fits(TransferOutRequest),
-    Fails(Fault),
-}
-
 impl TransferOutRequest {
     pub const MASK: u32 = 1;
 
     pub const FUNCTION: u32 = 0x106;
 }
 
-#[tactic(auto, unfolding(crate::specs::TransferOutRequest::transfer_out_request_of))]
-pub(crate) fn read(m: &[u8]) -> TransferOutRequestRead
-    ensures { result ≡ transfer_out_request_of m.now }
-{
-    match transfer::read(m) {
-        TransferRead::Fits(t) => outgoing(m, t),
-        TransferRead::Fails(fault) => TransferOutRequestRead::Fails(fault),
+impl MessageBody for TransferOutRequest {
+    ghost reading = { transfer_out_request_of };
+
+    ghost fits = { transfer_out_request_allowed };
+
+    ghost asks = { λ b. asks.TransferOut (record { request = b.urb.request; size = b.size; noack = b.urb.noack; payload = b.output }) };
+
+    ghost body = { transfer_out_request_body };
+
+    #[tactic(auto, unfolding(crate::specs::TransferOutRequest::transfer_out_request_of))]
+    fn read(m: &[u8]) -> Result<TransferOutRequest, Fault> {
+        outgoing(m, transfer::read(m)?)
     }
+
+    #[tactic(auto, unfolding(crate::specs::TransferOutRequest::transfer_out_request_allowed))]
+    fn allowed(self) -> bool {
+        values::outgoing(self.urb.noack, self.urb.urb)
+    }
+
+    fn asked(self) -> Asked {
+        Asked::TransferOut(Request {
+            request: self.urb.request,
+            size: self.size,
+            noack: self.urb.noack,
+            payload: self.output,
+        })
+    }
+
+    ghost says = { λ b. refl };
 }
 
 #[tactic(auto, unfolding(crate::specs::TransferOutRequest::outgoing_of))]
-fn outgoing(m: &[u8], t: Transfer) -> TransferOutRequestRead
+fn outgoing(m: &[u8], t: Transfer) -> Result<TransferOutRequest, Fault>
     ensures { result ≡ outgoing_of m.now t }
 {
-    let after = t.after;
     let size = t.size as usize;
-    if rest(m, after) < size {
-        return TransferOutRequestRead::Fails(Fault::RanOut(after));
-    }
+    field(m, t.after, size)?;
     if t.last < t.end {
-        return TransferOutRequestRead::Fails(Fault::LeftOver(t.last));
+        return Err(Fault::LeftOver(t.last));
     }
-    let e = after + size;
-    if 0 < rest(m, e) {
-        return TransferOutRequestRead::Fails(Fault::LeftOver(e));
-    }
-    let urb = t.urb;
-    TransferOutRequestRead::Fits(TransferOutRequest {
-        urb: urb,
+    ended(m, t.after + size)?;
+    Ok(TransferOutRequest {
+        urb: t.urb,
         size: t.size,
         output: Part {
-            start: after,
-            size: size,
+            start: t.after,
+            size,
         },
     })
-}
-
-#[tactic(auto, unfolding(crate::specs::TransferOutRequest::transfer_out_request_allowed))]
-pub(crate) fn allowed(b: TransferOutRequest) -> bool
-    ensures { result ≡ transfer_out_request_allowed b }
-{
-    let t = b.urb;
-    let urb = t.urb;
-    if !values::allowed(urb) {
-        return false;
-    }
-    if values::only_in(urb) {
-        return false;
-    }
-    if t.noack {
-        return values::may_no_ack(urb);
-    }
-    true
-}
-
-pub(crate) fn ask(m: &[u8]) -> Asked
-    ensures { result ≡ asks_by (transfer_out_request_reading (transfer_out_request_of m.now)) }
-{
-    match read(m) {
-        TransferOutRequestRead::Fits(b) => {
-            if !allowed(b) {
-                return Asked::Value;
-            }
-            let urb = b.urb;
-            let request = urb.request;
-            let output = b.output;
-            Asked::TransferOut(Request {
-                request: request,
-                size: b.size,
-                noack: urb.noack,
-                payload: output,
-            })
-        }
-        TransferOutRequestRead::Fails(fault) => Asked::Fails(fault),
-    }
 }

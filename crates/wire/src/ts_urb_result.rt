@@ -13,7 +13,7 @@ ghost use Rattle.std.specs.Prelude.{◌≡◌, ◌≤◌};
 ghost use Rattle.wire.specs.TsUrbResult.{completion_of, completed_of};
 
 use header::ids::RequestId;
-use words::layout::{Fault, Part};
+use words::layout::{Fault, Part, agrees, field};
 use words::numbers::{rest, u16_at, u32_at};
 
 #[derive(Clone, Copy)]
@@ -33,52 +33,32 @@ pub struct Completion {
     pub after: usize,
 }
 
-#[derive(Clone, Copy)]
-pub enum CompletionRead {
-    Fits(Completion),
-    Fails(Fault),
-}
-
 #[tactic(auto, unfolding(crate::specs::TsUrbResult::completion_of, crate::specs::TsUrbResult::completion_with))]
-pub(crate) fn read(m: &[u8]) -> CompletionRead
+pub(crate) fn read(m: &[u8]) -> Result<Completion, Fault>
     ensures { result ≡ completion_of m.now }
 {
-    if rest(m, 12) < 4 {
-        return CompletionRead::Fails(Fault::RanOut(12));
-    }
-    if rest(m, 16) < 4 {
-        return CompletionRead::Fails(Fault::RanOut(16));
-    }
+    field(m, 12, 4)?;
+    field(m, 16, 4)?;
     let size = u32_at(m, 16);
-    if size < 8 {
-        return CompletionRead::Fails(Fault::Disagrees(16));
-    }
-    if rest(m, 20) < size as usize {
-        return CompletionRead::Fails(Fault::RanOut(20));
-    }
-    if u16_at(m, 20) != size {
-        return CompletionRead::Fails(Fault::Disagrees(20));
-    }
+    agrees(8 <= size, 16)?;
+    field(m, 20, size as usize)?;
+    agrees(u16_at(m, 20) == size, 20)?;
     completed(m, size)
 }
 
 // What follows a result of `size` bytes.
 #[tactic(auto, unfolding(crate::specs::TsUrbResult::completed_of))]
-fn completed(m: &[u8], size: u32) -> CompletionRead
+fn completed(m: &[u8], size: u32) -> Result<Completion, Fault>
     requires { 8 ≤ size }
     ensures { result ≡ completed_of m.now size }
 {
     let e = 20 + size as usize;
-    if rest(m, e) < 4 {
-        return CompletionRead::Fails(Fault::RanOut(e));
-    }
-    if rest(m, e + 4) < 4 {
-        return CompletionRead::Fails(Fault::RanOut(e + 4));
-    }
-    CompletionRead::Fits(Completion {
+    field(m, e, 4)?;
+    field(m, e + 4, 4)?;
+    Ok(Completion {
         request: RequestId::read(m, 12),
         urb: TsUrbResult {
-            size: size,
+            size,
             status: u32_at(m, 24),
             rest: Part {
                 start: 28,

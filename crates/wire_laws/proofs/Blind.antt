@@ -1,4 +1,5 @@
 -- The size reader looks at no byte of a payload: two messages that differ only there read as the same body.
+use Rattle.std.specs.Prelude.{Result, Ok, Err}
 use Prim.Native.Nat.{ℕ, ◌+◌, ◌≤◌, ◌<◌}
 use native.Mathlib.Omega.{arith}
 use mathlib.Core.Path.{◌≡◌, refl, sym, subst, ap, ◌∙◌}
@@ -20,10 +21,6 @@ use Rattle.wire.specs.CancelRequest.{cancel_request_of}
 use Rattle.wire.specs.RegisterRequestCallback.{register_request_callback_of}
 use Rattle.wire.specs.RetractDevice.{retract_device_of}
 use Rattle.wire.specs.declared.add_device.TextPair.{TextPair}
-use Rattle.wire.specs.declared.add_device.PairRead.{PairRead}
-use Rattle.wire.specs.declared.add_device.PairRead.TheVariants as pair
-use Rattle.device.specs.declared.device_capabilities.CapabilitiesRead.{CapabilitiesRead}
-use Rattle.device.specs.declared.device_capabilities.CapabilitiesRead.TheVariants as capabilities
 use Rattle.wire.specs.IoControl.{io_control_of, io_control_with}
 use Rattle.wire.specs.IoControlCompletion.{io_control_completion_of, io_control_completion_with}
 use Rattle.urb.specs.TsUrb.{ts_urb_of}
@@ -33,31 +30,16 @@ use Rattle.wire.specs.TransferOutRequest.{outgoing_of, outgoing_from, transfer_o
 use Rattle.wire.specs.TsUrbResult.{completed_of, completion_with, completion_of}
 use Rattle.wire.specs.UrbCompletion.{with_output_of, with_output_from, urb_completion_of}
 use Rattle.wire.specs.UrbCompletionNoData.{no_data_from, urb_completion_no_data_of}
-use Rattle.wire.specs.Reading.{Body, Reading, Fits, Fails, reading_of, capability_request_reading, capability_response_reading, channel_created_reading, add_virtual_channel_reading, add_device_reading, cancel_request_reading, register_request_callback_reading, io_control_reading, transfer_in_request_reading, transfer_out_request_reading, retract_device_reading, io_control_completion_reading, urb_completion_reading, urb_completion_no_data_reading}
-use Rattle.wire.specs.declared.capability_request.CapabilityRequestRead.TheVariants as capability_request
-use Rattle.wire.specs.declared.capability_response.CapabilityResponseRead.TheVariants as capability_response
-use Rattle.wire.specs.declared.channel_created.ChannelCreatedRead.TheVariants as channel_created
-use Rattle.wire.specs.declared.add_virtual_channel.AddVirtualChannelRead.TheVariants as add_virtual_channel
-use Rattle.wire.specs.declared.add_device.AddDeviceRead.TheVariants as add_device
-use Rattle.wire.specs.declared.cancel_request.CancelRequestRead.TheVariants as cancel_request
-use Rattle.wire.specs.declared.register_request_callback.RegisterRequestCallbackRead.TheVariants as register_request_callback
-use Rattle.wire.specs.declared.io_control.IoControlRead.TheVariants as io_control
-use Rattle.wire.specs.declared.transfer_in_request.TransferInRequestRead.TheVariants as transfer_in_request
-use Rattle.wire.specs.declared.transfer_out_request.TransferOutRequestRead.TheVariants as transfer_out_request
-use Rattle.wire.specs.declared.retract_device.RetractDeviceRead.TheVariants as retract_device
-use Rattle.wire.specs.declared.io_control_completion.IoControlCompletionRead.TheVariants as io_control_completion
-use Rattle.wire.specs.declared.urb_completion.UrbCompletionRead.TheVariants as urb_completion
-use Rattle.wire.specs.declared.urb_completion_no_data.UrbCompletionNoDataRead.TheVariants as urb_completion_no_data
+use Rattle.wire.specs.Reading.{Body, Reading, reading_of, capability_request_reading, capability_response_reading, channel_created_reading, add_virtual_channel_reading, add_device_reading, cancel_request_reading, register_request_callback_reading, io_control_reading, transfer_in_request_reading, transfer_out_request_reading, retract_device_reading, io_control_completion_reading, urb_completion_reading, urb_completion_no_data_reading}
 use Rattle.answers.specs.declared.kind.Kind.{Kind}
 use Rattle.words.specs.declared.layout.Part.{Part}
 use Rattle.answers.specs.declared.kind.Kind.TheVariants as kind
-use Rattle.urb.specs.declared.ts_urb.TsUrbRead.{TsUrbRead}
-use Rattle.urb.specs.declared.ts_urb.TsUrbRead.TheVariants as ts
-use Rattle.wire.specs.declared.transfer.TransferRead.{TransferRead}
-use Rattle.wire.specs.declared.transfer.TransferRead.TheVariants as transfer
-use Rattle.wire.specs.declared.ts_urb_result.CompletionRead.{CompletionRead}
-use Rattle.wire.specs.declared.ts_urb_result.CompletionRead.TheVariants as completion
 use Rattle.words.proofs.Steps.{either, field_by, agrees_by, at_least_by, ended_by, filled_by}
+use Rattle.words.specs.declared.layout.Fault.{Fault}
+use Rattle.device.specs.declared.device_capabilities.DeviceCapabilities.{DeviceCapabilities}
+use Rattle.urb.specs.declared.ts_urb.TsUrb.{TsUrb}
+use Rattle.wire.specs.declared.transfer.Transfer.{Transfer}
+use Rattle.wire.specs.declared.ts_urb_result.Completion.{Completion}
 
 -- Two messages that agree on a run of places agree on a number there.
 module _ (m n : List ℕ) (lo hi : ℕ) (same : (i : ℕ) → lo ≤ i → i < hi → byte_at m i ≡ byte_at n i) where
@@ -69,15 +51,15 @@ module _ (m n : List ℕ) (lo hi : ℕ) (same : (i : ℕ) → lo ≤ i → i < h
 
 -- what is shown of a reader f at a message m that reads as r
 abbrev pub Blind : {A : Type 0} → List ℕ → List ℕ → (List ℕ → A) → Reading → Type 0
-Blind m n f (Fits b) = AgreeOutside (data_run b) m n → f n ≡ f m
-Blind m n f (Fails fault) = Unit {0}
+Blind m n f (Ok b) = AgreeOutside (data_run b) m n → f n ≡ f m
+Blind m n f (Err fault) = Unit {0}
 
 pub io_control_blind : (m n : List ℕ) → Blind m n io_control_of (io_control_reading (io_control_of m))
 unfolding io_control_of io_control_with
 io_control_blind m n =
-    field_by io_control.Fails (λ r. Blind m n io_control_of (io_control_reading r)) (λ f. tt) m 12 4 _ λ a. field_by io_control.Fails (λ r. Blind m n io_control_of (io_control_reading r)) (λ f. tt) m 16 4 _ λ b. field_by io_control.Fails (λ r. Blind m n io_control_of (io_control_reading r)) (λ f. tt) m 20 (word_at m 16) _ λ c.
-    field_by io_control.Fails (λ r. Blind m n io_control_of (io_control_reading r)) (λ f. tt) m (20 + word_at m 16) 4 _ λ d. field_by io_control.Fails (λ r. Blind m n io_control_of (io_control_reading r)) (λ f. tt) m (20 + word_at m 16 + 4) 4 _ λ e.
-    ended_by io_control.Fails (λ r. Blind m n io_control_of (io_control_reading r)) (λ f. tt) m (20 + word_at m 16 + 8) _ λ z. λ g.
+    field_by (λ r. Blind m n io_control_of (io_control_reading r)) (λ f. tt) m 12 4 _ λ a. field_by (λ r. Blind m n io_control_of (io_control_reading r)) (λ f. tt) m 16 4 _ λ b. field_by (λ r. Blind m n io_control_of (io_control_reading r)) (λ f. tt) m 20 (word_at m 16) _ λ c.
+    field_by (λ r. Blind m n io_control_of (io_control_reading r)) (λ f. tt) m (20 + word_at m 16) 4 _ λ d. field_by (λ r. Blind m n io_control_of (io_control_reading r)) (λ f. tt) m (20 + word_at m 16 + 4) 4 _ λ e.
+    ended_by (λ r. Blind m n io_control_of (io_control_reading r)) (λ f. tt) m (20 + word_at m 16 + 8) _ λ z. λ g.
     let code = word_same m n 0 20 (λ i l h. g.1 i h) 12 (omega arith) (omega arith) in
     let size = word_same m n 0 20 (λ i l h. g.1 i h) 16 (omega arith) (omega arith) in
     let output = word_same m n (20 + word_at m 16) (20 + word_at m 16 + 8) (λ i l h. g.2 i l) (20 + word_at m 16) (omega arith) (omega arith) in
@@ -87,37 +69,37 @@ io_control_blind m n =
 pub io_control_completion_blind : (m n : List ℕ) → Blind m n io_control_completion_of (io_control_completion_reading (io_control_completion_of m))
 unfolding io_control_completion_of io_control_completion_with
 io_control_completion_blind m n =
-    field_by io_control_completion.Fails (λ r. Blind m n io_control_completion_of (io_control_completion_reading r)) (λ f. tt) m 12 4 _ λ a. field_by io_control_completion.Fails (λ r. Blind m n io_control_completion_of (io_control_completion_reading r)) (λ f. tt) m 16 4 _ λ b. field_by io_control_completion.Fails (λ r. Blind m n io_control_completion_of (io_control_completion_reading r)) (λ f. tt) m 20 4 _ λ c.
-    field_by io_control_completion.Fails (λ r. Blind m n io_control_completion_of (io_control_completion_reading r)) (λ f. tt) m 24 4 _ λ d. field_by io_control_completion.Fails (λ r. Blind m n io_control_completion_of (io_control_completion_reading r)) (λ f. tt) m 28 (word_at m 24) _ λ e.
-    ended_by io_control_completion.Fails (λ r. Blind m n io_control_completion_of (io_control_completion_reading r)) (λ f. tt) m (28 + word_at m 24) _ λ z. λ g.
+    field_by (λ r. Blind m n io_control_completion_of (io_control_completion_reading r)) (λ f. tt) m 12 4 _ λ a. field_by (λ r. Blind m n io_control_completion_of (io_control_completion_reading r)) (λ f. tt) m 16 4 _ λ b. field_by (λ r. Blind m n io_control_completion_of (io_control_completion_reading r)) (λ f. tt) m 20 4 _ λ c.
+    field_by (λ r. Blind m n io_control_completion_of (io_control_completion_reading r)) (λ f. tt) m 24 4 _ λ d. field_by (λ r. Blind m n io_control_completion_of (io_control_completion_reading r)) (λ f. tt) m 28 (word_at m 24) _ λ e.
+    ended_by (λ r. Blind m n io_control_completion_of (io_control_completion_reading r)) (λ f. tt) m (28 + word_at m 24) _ λ z. λ g.
     let word = word_same m n 0 28 (λ i l h. g.1 i h) in
     rw (← g.0, ← (word 12 (omega arith) (omega arith)), ← (word 16 (omega arith) (omega arith)), ← (word 20 (omega arith) (omega arith)), ← (word 24 (omega arith) (omega arith)))
 
 -- the two transfers read up to the byte behind OutputBufferSize
-abbrev After : List ℕ → TransferRead → Type 0
-After m (transfer.Fits t) = t.after ≡ 16 + word_at m 12 + 4
-After m (transfer.Fails f) = Unit {0}
+abbrev After : List ℕ → Result Transfer Fault → Type 0
+After m (Ok t) = t.after ≡ 16 + word_at m 12 + 4
+After m (Err f) = Unit {0}
 
-after_from : (m : List ℕ) (r : TsUrbRead) → After m (transfer_from m (16 + word_at m 12) r)
+after_from : (m : List ℕ) (r : Result (TsUrb × ℕ) Fault) → After m (transfer_from m (16 + word_at m 12) r)
 unfolding output_of
-after_from m (ts.Fits t last) = field_by transfer.Fails (After m) (λ f. tt) m (16 + word_at m 12) 4 _ λ a. refl
-after_from m (ts.Fails f) = tt
+after_from m (Ok (t, last)) = field_by (After m) (λ f. tt) m (16 + word_at m 12) 4 _ λ a. refl
+after_from m (Err f) = tt
 
 after : (m : List ℕ) → After m (transfer_of m)
 unfolding transfer_of transfer_with
 after m =
-    field_by transfer.Fails (After m) (λ f. tt) m 12 4 _ λ a. at_least_by transfer.Fails (After m) (λ f. tt) 8 (word_at m 12) 12 _ λ b.
-    field_by transfer.Fails (After m) (λ f. tt) m 16 (word_at m 12) _ λ c. after_from m (ts_urb_of (take (16 + word_at m 12) m))
+    field_by (After m) (λ f. tt) m 12 4 _ λ a. at_least_by (After m) (λ f. tt) 8 (word_at m 12) 12 _ λ b.
+    field_by (After m) (λ f. tt) m 16 (word_at m 12) _ λ c. after_from m (ts_urb_of (take (16 + word_at m 12) m))
 
 cut_same : (m n : List ℕ) (k : ℕ) → length m ≡ length n → ((i : ℕ) → i < k → byte_at m i ≡ byte_at n i) → take k m ≡ take k n
 cut_same m n k e f =
     ext_get_or 0 (take k m) (take k n) (omega (arith, length-take k m, length-take k n))
     (λ i h. let q : i < k = omega (arith, length-take k m) in get_or-take k m i 0 q ∙ f i q ∙ sym (get_or-take k n i 0 q))
 
-from_same : (m n : List ℕ) (end : ℕ) (r : TsUrbRead) → length m ≡ length n → word_at m end ≡ word_at n end → transfer_from n end r ≡ transfer_from m end r
+from_same : (m n : List ℕ) (end : ℕ) (r : Result (TsUrb × ℕ) Fault) → length m ≡ length n → word_at m end ≡ word_at n end → transfer_from n end r ≡ transfer_from m end r
 unfolding output_of
-from_same m n end (ts.Fits t last) e w = rw (← e, ← w)
-from_same m n end (ts.Fails f) e w = refl
+from_same m n end (Ok (t, last)) e w = rw (← e, ← w)
+from_same m n end (Err f) e w = refl
 
 transfer_same : (m n : List ℕ) → length m ≡ length n → ((i : ℕ) → i < 16 + word_at m 12 + 4 → byte_at m i ≡ byte_at n i) → transfer_of n ≡ transfer_of m
 unfolding transfer_of transfer_with
@@ -127,31 +109,31 @@ transfer_same m n e f =
     let cut = cut_same m n (16 + word_at m 12) e (λ i h. f i (omega arith)) in
     rw (← e, ← size, ← cut, from_same m n (16 + word_at m 12) (ts_urb_of (take (16 + word_at m 12) m)) e (word (16 + word_at m 12) (omega arith) (omega arith)))
 
-outgoing_length : (m n : List ℕ) (r : TransferRead) → length m ≡ length n → outgoing_from n r ≡ outgoing_from m r
+outgoing_length : (m n : List ℕ) (r : Result Transfer Fault) → length m ≡ length n → outgoing_from n r ≡ outgoing_from m r
 unfolding outgoing_of
-outgoing_length m n (transfer.Fits t) e = rw (← e)
-outgoing_length m n (transfer.Fails f) e = refl
+outgoing_length m n (Ok t) e = rw (← e)
+outgoing_length m n (Err f) e = refl
 
-outgoing_blind : (m n : List ℕ) (r : TransferRead) → After m r → Blind m n transfer_out_request_of (transfer_out_request_reading (outgoing_from m r))
+outgoing_blind : (m n : List ℕ) (r : Result Transfer Fault) → After m r → Blind m n transfer_out_request_of (transfer_out_request_reading (outgoing_from m r))
 unfolding outgoing_of transfer_out_request_of
-outgoing_blind m n (transfer.Fits t) k =
-    field_by transfer_out_request.Fails (λ r. Blind m n transfer_out_request_of (transfer_out_request_reading r)) (λ f. tt) m t.after t.size _ λ b. filled_by transfer_out_request.Fails (λ r. Blind m n transfer_out_request_of (transfer_out_request_reading r)) (λ f. tt) t.last t.end _ λ c.
-    ended_by transfer_out_request.Fails (λ r. Blind m n transfer_out_request_of (transfer_out_request_reading r)) (λ f. tt) m (t.after + t.size) _ λ z. λ g.
+outgoing_blind m n (Ok t) k =
+    field_by (λ r. Blind m n transfer_out_request_of (transfer_out_request_reading r)) (λ f. tt) m t.after t.size _ λ b. filled_by (λ r. Blind m n transfer_out_request_of (transfer_out_request_reading r)) (λ f. tt) t.last t.end _ λ c.
+    ended_by (λ r. Blind m n transfer_out_request_of (transfer_out_request_reading r)) (λ f. tt) m (t.after + t.size) _ λ z. λ g.
     ap (outgoing_from n) (transfer_same m n g.0 (λ i h. g.1 i (omega arith))) ∙ outgoing_length m n (transfer_of m) g.0
-outgoing_blind m n (transfer.Fails f) k = tt
+outgoing_blind m n (Err f) k = tt
 
 -- and the URB completions up to the byte behind theirs
-abbrev Behind : List ℕ → CompletionRead → Type 0
-Behind m (completion.Fits c) = c.after ≡ 20 + word_at m 16 + 8
-Behind m (completion.Fails f) = Unit {0}
+abbrev Behind : List ℕ → Result Completion Fault → Type 0
+Behind m (Ok c) = c.after ≡ 20 + word_at m 16 + 8
+Behind m (Err f) = Unit {0}
 
 behind : (m : List ℕ) → Behind m (completion_of m)
 unfolding completion_of completion_with completed_of
 behind m =
-    field_by completion.Fails (Behind m) (λ f. tt) m 12 4 _ λ a. field_by completion.Fails (Behind m) (λ f. tt) m 16 4 _ λ b.
-    at_least_by completion.Fails (Behind m) (λ f. tt) 8 (word_at m 16) 16 _ λ c. field_by completion.Fails (Behind m) (λ f. tt) m 20 (word_at m 16) _ λ d.
-    agrees_by completion.Fails (Behind m) (λ f. tt) (half_at m 20) (word_at m 16) 20 _ λ e.
-    field_by completion.Fails (Behind m) (λ f. tt) m (20 + word_at m 16) 4 _ λ g. field_by completion.Fails (Behind m) (λ f. tt) m (20 + word_at m 16 + 4) 4 _ λ k. refl
+    field_by (Behind m) (λ f. tt) m 12 4 _ λ a. field_by (Behind m) (λ f. tt) m 16 4 _ λ b.
+    at_least_by (Behind m) (λ f. tt) 8 (word_at m 16) 16 _ λ c. field_by (Behind m) (λ f. tt) m 20 (word_at m 16) _ λ d.
+    agrees_by (Behind m) (λ f. tt) (half_at m 20) (word_at m 16) 20 _ λ e.
+    field_by (Behind m) (λ f. tt) m (20 + word_at m 16) 4 _ λ g. field_by (Behind m) (λ f. tt) m (20 + word_at m 16 + 4) 4 _ λ k. refl
 
 completion_same : (m n : List ℕ) → length m ≡ length n → ((i : ℕ) → i < 20 + word_at m 16 + 8 → byte_at m i ≡ byte_at n i) → completion_of n ≡ completion_of m
 unfolding completion_of completion_with completed_of
@@ -160,17 +142,17 @@ completion_same m n e f =
     let half = half_same m n 0 (20 + word_at m 16 + 8) (λ i l h. f i h) in
     rw (← e, ← (word 16 (omega arith) (omega arith)), ← (word 12 (omega arith) (omega arith)), ← (half 20 (omega arith) (omega arith)), ← (word 24 (omega arith) (omega arith)), ← (word (20 + word_at m 16) (omega arith) (omega arith)), ← (word (20 + word_at m 16 + 4) (omega arith) (omega arith)))
 
-with_output_length : (m n : List ℕ) (r : CompletionRead) → length m ≡ length n → with_output_from n r ≡ with_output_from m r
+with_output_length : (m n : List ℕ) (r : Result Completion Fault) → length m ≡ length n → with_output_from n r ≡ with_output_from m r
 unfolding with_output_of
-with_output_length m n (completion.Fits c) e = rw (← e)
-with_output_length m n (completion.Fails f) e = refl
+with_output_length m n (Ok c) e = rw (← e)
+with_output_length m n (Err f) e = refl
 
-with_output_blind : (m n : List ℕ) (r : CompletionRead) → Behind m r → Blind m n urb_completion_of (urb_completion_reading (with_output_from m r))
+with_output_blind : (m n : List ℕ) (r : Result Completion Fault) → Behind m r → Blind m n urb_completion_of (urb_completion_reading (with_output_from m r))
 unfolding with_output_of urb_completion_of
-with_output_blind m n (completion.Fits c) k =
-    field_by urb_completion.Fails (λ r. Blind m n urb_completion_of (urb_completion_reading r)) (λ f. tt) m c.after c.size _ λ b. ended_by urb_completion.Fails (λ r. Blind m n urb_completion_of (urb_completion_reading r)) (λ f. tt) m (c.after + c.size) _ λ z. λ g.
+with_output_blind m n (Ok c) k =
+    field_by (λ r. Blind m n urb_completion_of (urb_completion_reading r)) (λ f. tt) m c.after c.size _ λ b. ended_by (λ r. Blind m n urb_completion_of (urb_completion_reading r)) (λ f. tt) m (c.after + c.size) _ λ z. λ g.
     ap (with_output_from n) (completion_same m n g.0 (λ i h. g.1 i (omega arith))) ∙ with_output_length m n (completion_of m) g.0
-with_output_blind m n (completion.Fails f) k = tt
+with_output_blind m n (Err f) k = tt
 
 -- messages that agree outside a part of no bytes are one message
 pub same_bytes : (p : Part) (m n : List ℕ) → p.size ≡ 0 → AgreeOutside p m n → m ≡ n
@@ -187,63 +169,63 @@ none f m n g = ap f (sym (same_bytes (record { start = 0; size = 0 }) m n refl g
 module _ (m n : List ℕ) where
   pub capability_request_blind : Blind m n capability_request_of (capability_request_reading (capability_request_of m))
   unfolding capability_request_of
-  capability_request_blind = field_by capability_request.Fails (λ r. Blind m n capability_request_of (capability_request_reading r)) (λ x. tt) m 12 4 _ λ a12. ended_by capability_request.Fails (λ r. Blind m n capability_request_of (capability_request_reading r)) (λ x. tt) m 16 _ λ z. none capability_request_of m n
+  capability_request_blind = field_by (λ r. Blind m n capability_request_of (capability_request_reading r)) (λ x. tt) m 12 4 _ λ a12. ended_by (λ r. Blind m n capability_request_of (capability_request_reading r)) (λ x. tt) m 16 _ λ z. none capability_request_of m n
 
   pub capability_response_blind : Blind m n capability_response_of (capability_response_reading (capability_response_of m))
   unfolding capability_response_of
-  capability_response_blind = field_by capability_response.Fails (λ r. Blind m n capability_response_of (capability_response_reading r)) (λ x. tt) m 8 4 _ λ a8. field_by capability_response.Fails (λ r. Blind m n capability_response_of (capability_response_reading r)) (λ x. tt) m 12 4 _ λ a12. ended_by capability_response.Fails (λ r. Blind m n capability_response_of (capability_response_reading r)) (λ x. tt) m 16 _ λ z. none capability_response_of m n
+  capability_response_blind = field_by (λ r. Blind m n capability_response_of (capability_response_reading r)) (λ x. tt) m 8 4 _ λ a8. field_by (λ r. Blind m n capability_response_of (capability_response_reading r)) (λ x. tt) m 12 4 _ λ a12. ended_by (λ r. Blind m n capability_response_of (capability_response_reading r)) (λ x. tt) m 16 _ λ z. none capability_response_of m n
 
   pub channel_created_blind : Blind m n channel_created_of (channel_created_reading (channel_created_of m))
   unfolding channel_created_of
-  channel_created_blind = field_by channel_created.Fails (λ r. Blind m n channel_created_of (channel_created_reading r)) (λ x. tt) m 12 4 _ λ a12. field_by channel_created.Fails (λ r. Blind m n channel_created_of (channel_created_reading r)) (λ x. tt) m 16 4 _ λ a16. field_by channel_created.Fails (λ r. Blind m n channel_created_of (channel_created_reading r)) (λ x. tt) m 20 4 _ λ a20. ended_by channel_created.Fails (λ r. Blind m n channel_created_of (channel_created_reading r)) (λ x. tt) m 24 _ λ z. none channel_created_of m n
+  channel_created_blind = field_by (λ r. Blind m n channel_created_of (channel_created_reading r)) (λ x. tt) m 12 4 _ λ a12. field_by (λ r. Blind m n channel_created_of (channel_created_reading r)) (λ x. tt) m 16 4 _ λ a16. field_by (λ r. Blind m n channel_created_of (channel_created_reading r)) (λ x. tt) m 20 4 _ λ a20. ended_by (λ r. Blind m n channel_created_of (channel_created_reading r)) (λ x. tt) m 24 _ λ z. none channel_created_of m n
 
   pub add_virtual_channel_blind : Blind m n add_virtual_channel_of (add_virtual_channel_reading (add_virtual_channel_of m))
   unfolding add_virtual_channel_of
-  add_virtual_channel_blind = ended_by add_virtual_channel.Fails (λ r. Blind m n add_virtual_channel_of (add_virtual_channel_reading r)) (λ x. tt) m 12 _ λ z. none add_virtual_channel_of m n
+  add_virtual_channel_blind = ended_by (λ r. Blind m n add_virtual_channel_of (add_virtual_channel_reading r)) (λ x. tt) m 12 _ λ z. none add_virtual_channel_of m n
 
   pub cancel_request_blind : Blind m n cancel_request_of (cancel_request_reading (cancel_request_of m))
   unfolding cancel_request_of
-  cancel_request_blind = field_by cancel_request.Fails (λ r. Blind m n cancel_request_of (cancel_request_reading r)) (λ x. tt) m 12 4 _ λ a12. ended_by cancel_request.Fails (λ r. Blind m n cancel_request_of (cancel_request_reading r)) (λ x. tt) m 16 _ λ z. none cancel_request_of m n
+  cancel_request_blind = field_by (λ r. Blind m n cancel_request_of (cancel_request_reading r)) (λ x. tt) m 12 4 _ λ a12. ended_by (λ r. Blind m n cancel_request_of (cancel_request_reading r)) (λ x. tt) m 16 _ λ z. none cancel_request_of m n
 
   pub retract_device_blind : Blind m n retract_device_of (retract_device_reading (retract_device_of m))
   unfolding retract_device_of
-  retract_device_blind = field_by retract_device.Fails (λ r. Blind m n retract_device_of (retract_device_reading r)) (λ x. tt) m 12 4 _ λ a12. ended_by retract_device.Fails (λ r. Blind m n retract_device_of (retract_device_reading r)) (λ x. tt) m 16 _ λ z. none retract_device_of m n
+  retract_device_blind = field_by (λ r. Blind m n retract_device_of (retract_device_reading r)) (λ x. tt) m 12 4 _ λ a12. ended_by (λ r. Blind m n retract_device_of (retract_device_reading r)) (λ x. tt) m 16 _ λ z. none retract_device_of m n
 
   pub register_request_callback_blind : Blind m n register_request_callback_of (register_request_callback_reading (register_request_callback_of m))
   unfolding register_request_callback_of
   register_request_callback_blind =
-      field_by register_request_callback.Fails (λ r. Blind m n register_request_callback_of (register_request_callback_reading r)) (λ x. tt) m 12 4 _ λ a. either (λ r. Blind m n register_request_callback_of (register_request_callback_reading r)) (eqb (word_at m 12) 0) _ _
-      (λ e. ended_by register_request_callback.Fails (λ r. Blind m n register_request_callback_of (register_request_callback_reading r)) (λ x. tt) m 16 _ λ z. none register_request_callback_of m n)
-      (λ e. field_by register_request_callback.Fails (λ r. Blind m n register_request_callback_of (register_request_callback_reading r)) (λ x. tt) m 16 4 _ λ b. ended_by register_request_callback.Fails (λ r. Blind m n register_request_callback_of (register_request_callback_reading r)) (λ x. tt) m 20 _ λ z. none register_request_callback_of m n)
+      field_by (λ r. Blind m n register_request_callback_of (register_request_callback_reading r)) (λ x. tt) m 12 4 _ λ a. either (λ r. Blind m n register_request_callback_of (register_request_callback_reading r)) (eqb (word_at m 12) 0) _ _
+      (λ e. ended_by (λ r. Blind m n register_request_callback_of (register_request_callback_reading r)) (λ x. tt) m 16 _ λ z. none register_request_callback_of m n)
+      (λ e. field_by (λ r. Blind m n register_request_callback_of (register_request_callback_reading r)) (λ x. tt) m 16 4 _ λ b. ended_by (λ r. Blind m n register_request_callback_of (register_request_callback_reading r)) (λ x. tt) m 20 _ λ z. none register_request_callback_of m n)
 
-  device_blind : (names classes : TextPair) (r : CapabilitiesRead) → Blind m n add_device_of (add_device_reading (device_with m names classes r))
-  device_blind names classes (capabilities.Fits c end) = ended_by add_device.Fails (λ r. Blind m n add_device_of (add_device_reading r)) (λ x. tt) m end _ λ z. none add_device_of m n
-  device_blind names classes (capabilities.Fails f) = tt
+  device_blind : (names classes : TextPair) (r : Result (DeviceCapabilities × ℕ) Fault) → Blind m n add_device_of (add_device_reading (device_with m names classes r))
+  device_blind names classes (Ok (c, end)) = ended_by (λ r. Blind m n add_device_of (add_device_reading r)) (λ x. tt) m end _ λ z. none add_device_of m n
+  device_blind names classes (Err f) = tt
 
-  classes_blind : (names : TextPair) (r : PairRead) → Blind m n add_device_of (add_device_reading (classes_from m names r))
+  classes_blind : (names : TextPair) (r : Result (TextPair × ℕ) Fault) → Blind m n add_device_of (add_device_reading (classes_from m names r))
   unfolding device_of
-  classes_blind names (pair.Fits classes at) = device_blind names classes (capabilities_of m at)
-  classes_blind names (pair.Fails f) = tt
+  classes_blind names (Ok (classes, at)) = device_blind names classes (capabilities_of m at)
+  classes_blind names (Err f) = tt
 
-  names_blind : (r : PairRead) → Blind m n add_device_of (add_device_reading (names_from m r))
-  names_blind (pair.Fits names middle) = classes_blind names (pair_of m middle)
-  names_blind (pair.Fails f) = tt
+  names_blind : (r : Result (TextPair × ℕ) Fault) → Blind m n add_device_of (add_device_reading (names_from m r))
+  names_blind (Ok (names, middle)) = classes_blind names (pair_of m middle)
+  names_blind (Err f) = tt
 
   pub add_device_blind : Blind m n add_device_of (add_device_reading (add_device_of m))
   unfolding add_device_of
-  add_device_blind = field_by add_device.Fails (λ r. Blind m n add_device_of (add_device_reading r)) (λ x. tt) m 12 4 _ λ a. field_by add_device.Fails (λ r. Blind m n add_device_of (add_device_reading r)) (λ x. tt) m 16 4 _ λ b. names_blind (pair_of m 20)
+  add_device_blind = field_by (λ r. Blind m n add_device_of (add_device_reading r)) (λ x. tt) m 12 4 _ λ a. field_by (λ r. Blind m n add_device_of (add_device_reading r)) (λ x. tt) m 16 4 _ λ b. names_blind (pair_of m 20)
 
-  incoming_blind : (r : TransferRead) → Blind m n transfer_in_request_of (transfer_in_request_reading (incoming_from m r))
-  incoming_blind (transfer.Fits t) = filled_by transfer_in_request.Fails (λ r. Blind m n transfer_in_request_of (transfer_in_request_reading r)) (λ x. tt) t.last t.end _ λ a. ended_by transfer_in_request.Fails (λ r. Blind m n transfer_in_request_of (transfer_in_request_reading r)) (λ x. tt) m t.after _ λ z. none transfer_in_request_of m n
-  incoming_blind (transfer.Fails f) = tt
+  incoming_blind : (r : Result Transfer Fault) → Blind m n transfer_in_request_of (transfer_in_request_reading (incoming_from m r))
+  incoming_blind (Ok t) = filled_by (λ r. Blind m n transfer_in_request_of (transfer_in_request_reading r)) (λ x. tt) t.last t.end _ λ a. ended_by (λ r. Blind m n transfer_in_request_of (transfer_in_request_reading r)) (λ x. tt) m t.after _ λ z. none transfer_in_request_of m n
+  incoming_blind (Err f) = tt
 
   pub transfer_in_request_blind : Blind m n transfer_in_request_of (transfer_in_request_reading (transfer_in_request_of m))
   unfolding transfer_in_request_of
   transfer_in_request_blind = incoming_blind (transfer_of m)
 
-  no_data_blind : (r : CompletionRead) → Blind m n urb_completion_no_data_of (urb_completion_no_data_reading (no_data_from m r))
-  no_data_blind (completion.Fits c) = ended_by urb_completion_no_data.Fails (λ r. Blind m n urb_completion_no_data_of (urb_completion_no_data_reading r)) (λ x. tt) m c.after _ λ z. none urb_completion_no_data_of m n
-  no_data_blind (completion.Fails f) = tt
+  no_data_blind : (r : Result Completion Fault) → Blind m n urb_completion_no_data_of (urb_completion_no_data_reading (no_data_from m r))
+  no_data_blind (Ok c) = ended_by (λ r. Blind m n urb_completion_no_data_of (urb_completion_no_data_reading r)) (λ x. tt) m c.after _ λ z. none urb_completion_no_data_of m n
+  no_data_blind (Err f) = tt
 
   pub urb_completion_no_data_blind : Blind m n urb_completion_no_data_of (urb_completion_no_data_reading (urb_completion_no_data_of m))
   unfolding urb_completion_no_data_of
@@ -258,8 +240,8 @@ module _ (m n : List ℕ) where
   urb_completion_blind = with_output_blind m n (completion_of m) (behind m)
 
   lifted : {A B : Type 0} (f : List ℕ → A) (g : A → B) (r : Reading) → Blind m n f r → Blind m n (λ l. g (f l)) r
-  lifted f g (Fits b) h = λ a. ap g (h a)
-  lifted f g (Fails fault) h = tt
+  lifted f g (Ok b) h = λ a. ap g (h a)
+  lifted f g (Err fault) h = tt
 
   pub all_blind : (k : Kind) → Blind m n (reading_of k) (reading_of k m)
   unfolding reading_of
@@ -281,5 +263,5 @@ module _ (m n : List ℕ) where
   all_blind kind.UrbCompletionNoData = lifted urb_completion_no_data_of urb_completion_no_data_reading (urb_completion_no_data_reading (urb_completion_no_data_of m)) (urb_completion_no_data_blind)
 
 -- A message that fits its kind, and any other that differs from it only within its payload, read as the same body.
-pub blind : (k : Kind) (m n : List ℕ) (b : Body) → reading_of k m ≡ Fits b → AgreeOutside (data_run b) m n → reading_of k n ≡ Fits b
+pub blind : (k : Kind) (m n : List ℕ) (b : Body) → reading_of k m ≡ Ok b → AgreeOutside (data_run b) m n → reading_of k n ≡ Ok b
 blind k m n b e g = subst (Blind m n (reading_of k)) e (all_blind m n k) g ∙ e

@@ -1,26 +1,27 @@
 -- What a theorem says of a message: an interface that it would have the channel learn is one that may be given (`assignable`).
-use Rattle.std.specs.Prelude.{◌≡◌, true}
+use Rattle.std.specs.Prelude.{◌≡◌, true, Option, Some, None, Result, Ok, Err}
 use Rattle.header.specs.Ids.{assignable}
-use Rattle.header.specs.declared.ids.Known.{Known}
-use Rattle.header.specs.declared.ids.Known.TheVariants as known
+use Rattle.wire.specs.declared.message.Asked.TheVariants.{Step, Device, Callback, IoControl, TransferIn, TransferOut, Cancel, Retract, IoCompletion, UrbCompletion, UrbCompletionNoData}
+use Rattle.header.specs.declared.ids.InterfaceId.{InterfaceId}
 use Rattle.wire.specs.declared.message.Asked.{Asked}
-use Rattle.wire.specs.declared.message.Asked.TheVariants.{Fails, Value, Step, Device, Callback, IoControl, TransferIn, TransferOut, Cancel, Retract, IoCompletion, UrbCompletion, UrbCompletionNoData}
+use Rattle.wire.specs.declared.message.Unfit.{Unfit}
+use Rattle.wire.specs.declared.message.Unfit.TheVariants as unfit
 
-abbrev pub Given : Known → Type 0
-Given known.Nothing = Unit {0}
-Given (known.Is id) = assignable id ≡ true
+abbrev pub Given : Option InterfaceId → Type 0
+Given None = Unit {0}
+Given (Some id) = assignable id ≡ true
 
-abbrev pub Assigned : Asked → Type 0
-Assigned (Fails fault) = Unit {0}
-Assigned Value = Unit {0}
-Assigned Step = Unit {0}
-Assigned (Device id ms) = Given (known.Is id)
-Assigned (Callback known) = Given known
-Assigned (IoControl r) = Unit {0}
-Assigned (TransferIn r) = Unit {0}
-Assigned (TransferOut r) = Unit {0}
-Assigned (Cancel id) = Unit {0}
-Assigned Retract = Unit {0}
-Assigned (IoCompletion c) = Unit {0}
-Assigned (UrbCompletion c) = Unit {0}
-Assigned (UrbCompletionNoData c) = Unit {0}
+abbrev pub Assigned : Result Asked Unfit → Type 0
+Assigned (Err (unfit.Sizes fault)) = Unit {0}
+Assigned (Err unfit.Value) = Unit {0}
+Assigned (Ok Step) = Unit {0}
+Assigned (Ok (Device id ms)) = Given (Some id)
+Assigned (Ok (Callback known)) = Given known
+Assigned (Ok (IoControl r)) = Unit {0}
+Assigned (Ok (TransferIn r)) = Unit {0}
+Assigned (Ok (TransferOut r)) = Unit {0}
+Assigned (Ok (Cancel id)) = Unit {0}
+Assigned (Ok Retract) = Unit {0}
+Assigned (Ok (IoCompletion c)) = Unit {0}
+Assigned (Ok (UrbCompletion c)) = Unit {0}
+Assigned (Ok (UrbCompletionNoData c)) = Unit {0}

@@ -1,26 +1,28 @@
 -- Where the input or output bytes of a message lie, by what it asks and by its body. No contract cites this file: the laws do.
-use Rattle.std.specs.Prelude.{ℕ, ◌+◌, ◌<◌, ◌≤◌, ◌≡◌, List, length}
+use Rattle.std.specs.Prelude.{ℕ, ◌+◌, ◌<◌, ◌≤◌, ◌≡◌, List, length, Result, Ok, Err}
 use Rattle.words.specs.Words.{byte_at}
 use Rattle.wire.specs.Message.{empty_part}
 use Rattle.wire.specs.Reading.{Body, capability_request_body, capability_response_body, channel_created_body, add_virtual_channel_body, add_device_body, cancel_request_body, register_request_callback_body, io_control_body, transfer_in_request_body, transfer_out_request_body, retract_device_body, io_control_completion_body, urb_completion_body, urb_completion_no_data_body}
 use Rattle.words.specs.declared.layout.Part.{Part}
+use Rattle.wire.specs.declared.message.Asked.TheVariants.{Step, Device, Callback, IoControl, TransferIn, TransferOut, Cancel, Retract, IoCompletion, UrbCompletion, UrbCompletionNoData}
 use Rattle.wire.specs.declared.message.Asked.{Asked}
-use Rattle.wire.specs.declared.message.Asked.TheVariants.{Fails, Value, Step, Device, Callback, IoControl, TransferIn, TransferOut, Cancel, Retract, IoCompletion, UrbCompletion, UrbCompletionNoData}
+use Rattle.wire.specs.declared.message.Unfit.{Unfit}
+use Rattle.wire.specs.declared.message.Unfit.TheVariants as unfit
 
-abbrev pub payload_part : Asked → Part
-payload_part (Fails fault) = empty_part
-payload_part Value = empty_part
-payload_part Step = empty_part
-payload_part (Device id ms) = empty_part
-payload_part (Callback known) = empty_part
-payload_part (IoControl r) = r.payload
-payload_part (TransferIn r) = r.payload
-payload_part (TransferOut r) = r.payload
-payload_part (Cancel id) = empty_part
-payload_part Retract = empty_part
-payload_part (IoCompletion c) = c.payload
-payload_part (UrbCompletion c) = c.payload
-payload_part (UrbCompletionNoData c) = c.payload
+abbrev pub payload_part : Result Asked Unfit → Part
+payload_part (Err (unfit.Sizes fault)) = empty_part
+payload_part (Err unfit.Value) = empty_part
+payload_part (Ok Step) = empty_part
+payload_part (Ok (Device id ms)) = empty_part
+payload_part (Ok (Callback known)) = empty_part
+payload_part (Ok (IoControl r)) = r.payload
+payload_part (Ok (TransferIn r)) = r.payload
+payload_part (Ok (TransferOut r)) = r.payload
+payload_part (Ok (Cancel id)) = empty_part
+payload_part (Ok Retract) = empty_part
+payload_part (Ok (IoCompletion c)) = c.payload
+payload_part (Ok (UrbCompletion c)) = c.payload
+payload_part (Ok (UrbCompletionNoData c)) = c.payload
 
 -- where the data run of a body lies: its input or output bytes, or the empty part
 abbrev pub data_run : Body → Part

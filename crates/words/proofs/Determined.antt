@@ -15,6 +15,12 @@ use Rattle.words.proofs.numbers.rest.Reads as rest
 use Rattle.words.proofs.numbers.rest.Kinds as rest_kinds
 use Rattle.words.proofs.hresult.is_success.Reads as is_success
 use Rattle.words.proofs.hresult.is_success.Kinds as is_success_kinds
+use Rattle.words.proofs.layout.field.Reads as field
+use Rattle.words.proofs.layout.field.Kinds as field_kinds
+use Rattle.words.proofs.layout.ended.Reads as ended
+use Rattle.words.proofs.layout.ended.Kinds as ended_kinds
+use Rattle.words.proofs.layout.agrees.Reads as agrees
+use Rattle.words.proofs.layout.agrees.Kinds as agrees_kinds
 
 -- What a public contract owes: it can always be called, and it leaves its result no choice.
 pub record Determined (n : ℕ) (ps : List (ParamKind n)) (r : ResultKind n) (pre : In n ps) (post : Out n ps r) : Type 0 where
@@ -39,3 +45,12 @@ rest_determined = record { asks_nothing = λ κs a. tt; one_result = λ κs a x 
 
 pub is_success_determined : Determined 0 is_success_kinds.ps is_success_kinds.r is_success.Pre is_success.Post
 is_success_determined = record { asks_nothing = λ κs a. tt; one_result = λ κs a x y s t p q. same x y _ p q }
+
+pub field_determined : Determined 1 field_kinds.ps field_kinds.r field.Pre field.Post
+field_determined = record { asks_nothing = λ κs a. tt; one_result = λ κs a x y s t p q. same x y _ p q }
+
+pub ended_determined : Determined 1 ended_kinds.ps ended_kinds.r ended.Pre ended.Post
+ended_determined = record { asks_nothing = λ κs a. tt; one_result = λ κs a x y s t p q. same x y _ p q }
+
+pub agrees_determined : Determined 0 agrees_kinds.ps agrees_kinds.r agrees.Pre agrees.Post
+agrees_determined = record { asks_nothing = λ κs a. tt; one_result = λ κs a x y s t p q. same x y _ p q }

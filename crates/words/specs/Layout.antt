@@ -1,6 +1,5 @@
 -- How sizes are held against a message (answer 7): in message order, and the first that fails is told (docs/DECISIONS.md, 6).
--- `fails` makes the answer of the reader at hand out of the fault.
-use Rattle.std.specs.Prelude.{ℕ, ◌+◌, ◌-◌, ◌≤◌, List, Bool, cond, length, ltb}
+use Rattle.std.specs.Prelude.{ℕ, ◌+◌, ◌-◌, ◌≤◌, List, Bool, cond, length, ltb, Result, Err}
 use Rattle.words.specs.declared.layout.Part.{Part}
 use Rattle.words.specs.declared.layout.Fault.{Fault}
 use Rattle.words.specs.declared.layout.Fault.TheVariants.{RanOut, Disagrees, LeftOver}
@@ -10,24 +9,24 @@ abbrev pub left : List ℕ → ℕ → ℕ
 left m at = length m - at
 
 -- a field, or a counted run, of n bytes at a place, and then what follows it
-abbrev pub field : {A : Type 0} → (Fault → A) → List ℕ → ℕ → ℕ → A → A
-field fails m at n next = cond (ltb (left m at) n) (fails (RanOut at)) next
+abbrev pub field : {A : Type 0} → List ℕ → ℕ → ℕ → Result A Fault → Result A Fault
+field m at n next = cond (ltb (left m at) n) (Err (RanOut at)) next
 
 -- a size that has to agree
-abbrev pub agrees : {A : Type 0} → (Fault → A) → Bool → ℕ → A → A
-agrees fails test at next = cond test next (fails (Disagrees at))
+abbrev pub agrees : {A : Type 0} → Bool → ℕ → Result A Fault → Result A Fault
+agrees test at next = cond test next (Err (Disagrees at))
 
 -- a size that is at least n
-abbrev pub at_least : {A : Type 0} → (Fault → A) → ℕ → ℕ → ℕ → A → A
-at_least fails n size at next = cond (ltb size n) (fails (Disagrees at)) next
+abbrev pub at_least : {A : Type 0} → ℕ → ℕ → ℕ → Result A Fault → Result A Fault
+at_least n size at next = cond (ltb size n) (Err (Disagrees at)) next
 
 -- nothing from a place on
-abbrev pub ended : {A : Type 0} → (Fault → A) → List ℕ → ℕ → A → A
-ended fails m at next = cond (ltb 0 (left m at)) (fails (LeftOver at)) next
+abbrev pub ended : {A : Type 0} → List ℕ → ℕ → Result A Fault → Result A Fault
+ended m at next = cond (ltb 0 (left m at)) (Err (LeftOver at)) next
 
 -- what was read up to a place fills what was set aside for it
-abbrev pub filled : {A : Type 0} → (Fault → A) → ℕ → ℕ → A → A
-filled fails at end next = cond (ltb at end) (fails (LeftOver at)) next
+abbrev pub filled : {A : Type 0} → ℕ → ℕ → Result A Fault → Result A Fault
+filled at end next = cond (ltb at end) (Err (LeftOver at)) next
 
 -- a part lies behind the header and within n bytes
 abbrev pub Within : ℕ → Part → Type 0

@@ -1,6 +1,11 @@
-// What the size readers share: a part of a message, and what may break.
+// What the size readers share: a part of a message, what may break, and the tests that most of them are made of.
 
-// A run of bytes of the message, by its place: nothing is copied.
+ghost use Rattle.std.specs.Prelude.{◌≡◌, Ok};
+ghost use Rattle.words.specs.Layout.{field, ended, agrees};
+
+use crate::numbers::rest;
+
+// A run of bytes of the message, by its place: nothing is copied. No slice: what is asked, decided and shown of a message outlives no borrow of it so.
 #[derive(Clone, Copy)]
 pub struct Part {
     pub start: usize,
@@ -16,4 +21,34 @@ pub enum Fault {
     Disagrees(usize),
     // bytes behind the last field: the first of them
     LeftOver(usize),
+}
+
+// Holds a field, or a counted run, of n bytes against the message.
+pub fn field(m: &[u8], at: usize, n: usize) -> Result<(), Fault>
+    ensures { result ≡ field m.now at n (Ok tt) }
+{
+    if rest(m, at) < n {
+        return Err(Fault::RanOut(at));
+    }
+    Ok(())
+}
+
+// Holds the message's end against it: no byte stands from a place on.
+pub fn ended(m: &[u8], at: usize) -> Result<(), Fault>
+    ensures { result ≡ ended m.now at (Ok tt) }
+{
+    if 0 < rest(m, at) {
+        return Err(Fault::LeftOver(at));
+    }
+    Ok(())
+}
+
+// Holds a size inside the message against the one that its content has.
+pub fn agrees(test: bool, at: usize) -> Result<(), Fault>
+    ensures { result ≡ agrees test at (Ok tt) }
+{
+    if !test {
+        return Err(Fault::Disagrees(at));
+    }
+    Ok(())
 }

@@ -3,16 +3,10 @@
 ghost use Rattle.std.specs.Prelude.{◌≡◌, ◌-◌, ◌<◌, length};
 ghost use Rattle.words.specs.Words.{byte_at, half_at, word_at};
 
-fn wide(x: u8) -> u32
-    ensures { (result ≡ x) × (result < 256) }
-{
-    x as u32
-}
-
 pub fn byte_at(s: &[u8], at: usize) -> u32
     ensures { (result ≡ byte_at s.now at) × (result < 256) }
 {
-    if at < s.len() { wide(s[at]) } else { 0 }
+    if at < s.len() { u32::from(s[at]) } else { 0 }
 }
 
 pub fn u16_at(s: &[u8], at: usize) -> u32
@@ -42,5 +36,5 @@ pub fn u32_at(s: &[u8], at: usize) -> u32
 pub fn rest(s: &[u8], at: usize) -> usize
     ensures { result ≡ length s.now - at }
 {
-    if at < s.len() { s.len() - at } else { 0 }
+    s.len().saturating_sub(at)
 }

@@ -1,4 +1,3 @@
-pub mod Calls
 pub mod Lies
 pub mod Padded
 pub mod Messages

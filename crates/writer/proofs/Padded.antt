@@ -1,4 +1,5 @@
 -- The pieces that have no bytes, behind those of a message, change nothing of what is written.
+use Rattle.std.specs.Prelude.{Some}
 use Prim.Native.Nat.{ℕ, zero, suc, ◌+◌, ◌-◌}
 use mathlib.Core.Path.{◌≡◌, refl, ap}
 use mathlib.Core.List.{List, [], ◌∷◌, ◌++◌}
@@ -9,7 +10,6 @@ use borrow.Author.Tests.{le-ltb}
 use Rattle.pieces.specs.Pieces.{bytes_of, buffer_by, buffer_of, encode, size_of, total_from, written_by, written_of}
 use Rattle.pieces.specs.declared.piece.Piece.{Piece}
 use Rattle.pieces.specs.declared.piece.Piece.TheVariants.{Nothing}
-use Rattle.pieces.specs.declared.piece.Total.TheVariants.{Fits}
 use Rattle.writer.specs.SharedMsgHeader.{padded}
 use Rattle.writer.specs.TsUrb.{structure_pieces}
 use Rattle.writer.specs.declared.ts_urb.Structure.{Structure}
@@ -28,7 +28,7 @@ encode_behind s (p ∷ ps) k = ap (λ l. bytes_of s p ++ l) (encode_behind s ps 
 pub encode-padded : (s : List ℕ) (ps : List Piece) → encode s (padded ps) ≡ encode s ps
 encode-padded s ps = encode_behind s ps (20 - length ps)
 
-total_none : (n sum k : ℕ) → total_from n sum (replicate k Nothing) ≡ Fits sum
+total_none : (n sum k : ℕ) → total_from n sum (replicate k Nothing) ≡ Some sum
 unfolding total_from
 total_none n sum zero = refl
 total_none n sum (suc k) = rw (le-ltb (65535 - sum) 0 (omega arith), add-zero sum) (total_none n sum k)

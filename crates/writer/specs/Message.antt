@@ -1,5 +1,5 @@
 -- 02 R-1: what a writer gives for the fields of a message.
-use Rattle.std.specs.Prelude.{ℕ, ◌≤◌, List, Bool, true, cond, length}
+use Rattle.std.specs.Prelude.{ℕ, ◌≤◌, List, Bool, true, cond, length, Result, Err}
 use Rattle.header.specs.declared.ids.MessageId.{MessageId}
 use Rattle.wire.specs.CapabilityRequest.{capability_request_allowed}
 use Rattle.wire.specs.CapabilityResponse.{capability_response_allowed}
@@ -7,8 +7,6 @@ use Rattle.wire.specs.ChannelCreated.{channel_created_allowed}
 use Rattle.wire.specs.Message.{empty_part}
 use Rattle.pieces.specs.Pieces as pieces
 use Rattle.pieces.specs.declared.piece.Piece.{Piece}
-use Rattle.pieces.specs.declared.piece.Written.{Written}
-use Rattle.pieces.specs.declared.piece.Written.TheVariants.{Value}
 use Rattle.writer.specs.SharedMsgHeader.{interface_allowed}
 use Rattle.writer.specs.CapabilityRequest.{capability_request_pieces}
 use Rattle.writer.specs.CapabilityResponse.{capability_response_pieces}
@@ -25,6 +23,8 @@ use Rattle.writer.specs.IoControlCompletion.{io_control_completion_given, io_con
 use Rattle.writer.specs.UrbCompletion.{completion_pieces, result_given, urb_completion_given}
 use Rattle.writer.specs.declared.message.Fields.{Fields}
 use Rattle.writer.specs.declared.message.Fields.TheVariants.{CapabilityRequest, CapabilityResponse, ChannelCreatedByServer, ChannelCreatedByClient, AddVirtualChannel, AddDevice, RegisterRequestCallback, IoControl, InternalIoControl, TransferInRequest, TransferOutRequest, CancelRequest, RetractDevice, IoControlCompletion, UrbCompletion, UrbCompletionNoData}
+use Rattle.pieces.specs.declared.piece.Unwritten.{Unwritten}
+use Rattle.pieces.specs.declared.piece.Unwritten.TheVariants as unwritten
 
 -- every field is within its values, and every part in the lent bytes s
 unfoldable pub given_in : List ℕ → Fields → Bool
@@ -69,8 +69,8 @@ abbrev pub bytes_of : MessageId → Fields → List ℕ → List ℕ
 bytes_of id f s = pieces.encode s (pieces_of id f)
 
 -- 15: a field outside its values, or a message over 65,535 bytes; then 16: the room is shorter than the message
-unfoldable pub written_of : MessageId → Fields → List ℕ → ℕ → Written
-written_of id f s room = cond (given_in s f) (pieces.written_of s room (pieces_of id f)) Value
+unfoldable pub written_of : MessageId → Fields → List ℕ → ℕ → Result ℕ Unwritten
+written_of id f s room = cond (given_in s f) (pieces.written_of s room (pieces_of id f)) (Err unwritten.Value)
 
 -- both leave the buffer as lent; else only the message's bytes change
 unfoldable pub buffer_of : MessageId → Fields → List ℕ → List ℕ → List ℕ

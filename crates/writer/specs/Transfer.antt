@@ -1,36 +1,26 @@
 -- The two transfer requests from their fields (000 2.2.6.7, 2.2.6.8), kinds 10 to 12.
-use Rattle.std.specs.Prelude.{ℕ, ◌+◌, ◌*◌, List, [], ◌∷◌, ◌++◌, Bool, true, false, cond, not, ◌&&◌, eqb, ltb}
+use Rattle.std.specs.Prelude.{ℕ, ◌+◌, ◌*◌, List, [], ◌∷◌, ◌++◌, Bool, false, cond, ◌&&◌, ltb, Option, Some, None}
 use Rattle.words.specs.declared.layout.Part.{Part}
 use Rattle.header.specs.declared.ids.MessageId.{MessageId}
 use Rattle.header.specs.declared.ids.RequestId.{RequestId}
 use Rattle.urb.specs.declared.ts_urb.Urb.{Urb}
-use Rattle.urb_values.specs.Values.{urb_allowed, only_in, may_no_ack}
+use Rattle.urb_values.specs.Values.{incoming_allowed, outgoing_allowed}
 use Rattle.pieces.specs.declared.piece.Piece.{Piece}
 use Rattle.pieces.specs.declared.piece.Piece.TheVariants.{Word, Run}
 use Rattle.writer.specs.SharedMsgHeader.{head, interface_allowed}
 use Rattle.writer.specs.Part.{part_allowed}
 use Rattle.writer.specs.TsUrb.{stated_of, structure_pieces, structure_size}
 use Rattle.writer.specs.declared.ts_urb.TsUrbFields.{TsUrbFields}
-use Rattle.writer.specs.declared.ts_urb.Stated.{Stated}
-use Rattle.writer.specs.declared.ts_urb.Stated.TheVariants.{Nothing, Is}
 use Rattle.writer.specs.declared.transfer.TransferInFields.{TransferInFields}
 use Rattle.writer.specs.declared.transfer.TransferOutFields.{TransferOutFields}
 
--- the values of a transfer in (`transfer_in_request_allowed`, of a message)
-abbrev pub incoming_allowed : Bool → Urb → ℕ → Bool
-incoming_allowed noack urb size = not noack && (urb_allowed urb && cond (only_in urb) (eqb size 0) true)
+abbrev pub incoming_by : TransferInFields → Option Urb → Bool
+incoming_by b None = false
+incoming_by b (Some urb) = incoming_allowed b.urb.noack urb b.size
 
--- and of a transfer out (`transfer_out_request_allowed`)
-abbrev pub outgoing_allowed : Bool → Urb → Bool
-outgoing_allowed noack urb = urb_allowed urb && (not (only_in urb) && cond noack (may_no_ack urb) true)
-
-abbrev pub incoming_by : TransferInFields → Stated → Bool
-incoming_by b Nothing = false
-incoming_by b (Is urb) = incoming_allowed b.urb.noack urb b.size
-
-abbrev pub outgoing_by : TransferOutFields → Stated → Bool
-outgoing_by b Nothing = false
-outgoing_by b (Is urb) = outgoing_allowed b.urb.noack urb
+abbrev pub outgoing_by : TransferOutFields → Option Urb → Bool
+outgoing_by b None = false
+outgoing_by b (Some urb) = outgoing_allowed b.urb.noack urb
 
 -- RequestId in 31 bits
 abbrev pub request_allowed : RequestId → Bool

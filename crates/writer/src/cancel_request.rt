@@ -19,7 +19,6 @@ pub(crate) fn pieces(id: MessageId, interface: u32, b: CancelRequest) -> [Piece;
     ensures { result ≡ padded (cancel_request_pieces id interface b) }
 {
     let mut p = start(interface, CancelRequest::MASK, id, CancelRequest::FUNCTION);
-    let request = b.request;
-    p[3] = Piece::Word(request.number() as usize);
+    p[3] = Piece::Word(b.request.number() as usize);
     p
 }

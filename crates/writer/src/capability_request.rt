@@ -9,6 +9,7 @@ use header::ids::MessageId;
 use pieces::piece::Piece;
 use wire::capability_request::CapabilityRequest;
 
+// The definition is the reader's; the reader's test is its crate's own, and would be a promise to all if it were not.
 pub(crate) fn allowed(b: CapabilityRequest) -> bool
     ensures { result ≡ capability_request_allowed b }
 {

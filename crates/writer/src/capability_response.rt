@@ -10,13 +10,11 @@ use pieces::piece::Piece;
 use wire::capability_response::CapabilityResponse;
 use words::hresult::is_success;
 
+// By the reader's definition, as in capability_request.rt.
 pub(crate) fn allowed(b: CapabilityResponse) -> bool
     ensures { result ≡ capability_response_allowed b }
 {
-    if b.capability != 1 {
-        return false;
-    }
-    is_success(b.result)
+    b.capability == 1 && is_success(b.result)
 }
 
 pub(crate) fn pieces(id: MessageId, b: CapabilityResponse) -> [Piece; 20]

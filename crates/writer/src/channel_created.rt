@@ -9,16 +9,11 @@ use header::ids::MessageId;
 use pieces::piece::Piece;
 use wire::channel_created::ChannelCreated;
 
+// By the reader's definition, as in capability_request.rt.
 pub(crate) fn allowed(b: ChannelCreated) -> bool
     ensures { result ≡ channel_created_allowed b }
 {
-    if b.major != 1 {
-        return false;
-    }
-    if b.minor != 0 {
-        return false;
-    }
-    b.capabilities == 0
+    b.major == 1 && b.minor == 0 && b.capabilities == 0
 }
 
 // The interface is that of the side that sends it.

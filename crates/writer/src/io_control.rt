@@ -13,22 +13,17 @@ use wire::io_control::IoControl;
 pub(crate) fn allowed(interface: u32, b: IoControl, lent: &[u8]) -> bool
     ensures { result ≡ io_control_given lent.now interface b }
 {
-    if !interface_allowed(interface) {
-        return false;
-    }
-    part::allowed(lent, b.input)
+    interface_allowed(interface) && part::allowed(lent, b.input)
 }
 
 pub(crate) fn pieces(id: MessageId, interface: u32, function: u32, b: IoControl) -> [Piece; 20]
     ensures { result ≡ padded (io_control_pieces id interface function b) }
 {
     let mut p = start(interface, IoControl::MASK, id, function);
-    let input = b.input;
-    let request = b.request;
     p[3] = Piece::Word(b.code as usize);
-    p[4] = Piece::Word(input.size);
-    p[5] = Piece::Run(input);
+    p[4] = Piece::Word(b.input.size);
+    p[5] = Piece::Run(b.input);
     p[6] = Piece::Word(b.size as usize);
-    p[7] = Piece::Word(request.number() as usize);
+    p[7] = Piece::Word(b.request.number() as usize);
     p
 }

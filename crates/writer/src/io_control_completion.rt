@@ -21,10 +21,7 @@ pub struct IoControlCompletionFields {
 pub(crate) fn allowed(interface: u32, b: IoControlCompletionFields, lent: &[u8]) -> bool
     ensures { result ≡ io_control_completion_given lent.now interface b }
 {
-    if !interface_allowed(interface) {
-        return false;
-    }
-    part::allowed(lent, b.output)
+    interface_allowed(interface) && part::allowed(lent, b.output)
 }
 
 pub(crate) fn pieces(id: MessageId, interface: u32, b: IoControlCompletionFields) -> [Piece; 20]
@@ -36,12 +33,10 @@ pub(crate) fn pieces(id: MessageId, interface: u32, b: IoControlCompletionFields
         id,
         IoControlCompletion::FUNCTION,
     );
-    let output = b.output;
-    let request = b.request;
-    p[3] = Piece::Word(request.number() as usize);
+    p[3] = Piece::Word(b.request.number() as usize);
     p[4] = Piece::Word(b.result as usize);
     p[5] = Piece::Word(b.information as usize);
-    p[6] = Piece::Word(output.size);
-    p[7] = Piece::Run(output);
+    p[6] = Piece::Word(b.output.size);
+    p[7] = Piece::Run(b.output);
     p
 }

@@ -15,7 +15,7 @@ use crate::{
 };
 use header::ids::MessageId;
 use pieces::piece;
-use pieces::piece::{Piece, Written};
+use pieces::piece::{Piece, Unwritten};
 use wire::cancel_request::CancelRequest;
 use wire::capability_request::CapabilityRequest;
 use wire::capability_response::CapabilityResponse;
@@ -70,6 +70,7 @@ fn given(fields: Fields, lent: &[u8]) -> bool
     }
 }
 
+// What it asks is a fact of fields that were given, of four structs: no type says it of all.
 #[tactic(auto, unfolding(crate::specs::Message::pieces_of))]
 fn pieces(id: MessageId, fields: Fields) -> [Piece; 20]
     requires { SmallFields fields }
@@ -109,11 +110,12 @@ fn pieces(id: MessageId, fields: Fields) -> [Piece; 20]
 }
 
 // Writes a message to a buffer's start, and says how long it is: 15 before 16, and where it is refused the buffer stays as it was lent.
-pub fn write(id: MessageId, fields: Fields, lent: &[u8], buf: &mut [u8]) -> Written
+#[tactic(auto, using(crate::proofs::Messages::given_small))]
+pub fn write(id: MessageId, fields: Fields, lent: &[u8], buf: &mut [u8]) -> Result<usize, Unwritten>
     ensures { (result ≡ written_of id fields lent.now (length buf.old)) × (buf.new ≡ buffer_of id fields lent.now buf.old) }
 {
     if !given(fields, lent) {
-        return Written::Value;
+        return Err(Unwritten::Value);
     }
     piece::write(pieces(id, fields), lent, buf)
 }

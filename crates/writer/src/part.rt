@@ -1,5 +1,5 @@
 // A variable field: a part of the bytes that a caller lends.
-ghost use Rattle.std.specs.Prelude.{◌≡◌, true, ◌+◌, ◌≤◌, length};
+ghost use Rattle.std.specs.Prelude.{◌≡◌, ◌+◌, ◌≤◌, ◌↔◌, length, IsTrue, IsSome, IfSome};
 ghost use Rattle.writer.specs.Part.{part_allowed};
 
 use words::layout::Part;
@@ -16,11 +16,25 @@ impl Lent {
 pub(crate) fn allowed(lent: &[u8], part: Part) -> bool
     ensures { result ≡ part_allowed lent.now part }
 {
-    if lent.len() < part.start {
-        return false;
+    part.start <= lent.len() && part.size <= lent.len() - part.start && part.size <= Lent::LONGEST
+}
+
+// A part of which that holds, with the bytes that it lies in.
+#[derive(Clone, Copy)]
+pub(crate) struct Held<'a> {
+    pub lent: &'a [u8],
+    pub part: Part,
+    ghost lies: { part.start + part.size ≤ length lent.now },
+    ghost fits: { part.size ≤ 65535 },
+}
+
+pub(crate) fn lent_part(lent: &[u8], part: Part) -> Option<Held<'_>>
+    ensures some { IsTrue (part_allowed lent.now part) ↔ IsSome result }
+    ensures same { IfSome result (λ h. (h.lent.now ≡ lent.now) × (h.part ≡ part)) }
+{
+    if allowed(lent, part) {
+        Some(Held { lent, part })
+    } else {
+        None
     }
-    if lent.len() - part.start < part.size {
-        return false;
-    }
-    part.size <= Lent::LONGEST
 }

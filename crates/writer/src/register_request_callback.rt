@@ -8,43 +8,27 @@ use header::ids::{InterfaceId, MessageId};
 use pieces::piece::Piece;
 use wire::register_request_callback::RegisterRequestCallback;
 
-// RequestCompletion, its top two bits too.
-#[derive(Clone, Copy)]
-pub enum RequestCompletion {
-    Nothing,
-    Is(u32),
-}
-
 #[derive(Clone, Copy)]
 pub struct RegisterRequestCallbackFields {
     // NumRequestCompletion
     pub count: u32,
-    pub completion: RequestCompletion,
+    pub completion: Option<u32>,
 }
 
-// A RequestCompletion exactly when the count is not 0, of an interface that may be given.
-fn completion_allowed(count: u32, completion: RequestCompletion) -> bool
+// A Option<u32> exactly when the count is not 0, of an interface that may be given.
+fn completion_allowed(count: u32, completion: Option<u32>) -> bool
     ensures { result ≡ completion_allowed count completion }
 {
     match completion {
-        RequestCompletion::Nothing => count == 0,
-        RequestCompletion::Is(word) => {
-            if count == 0 {
-                return false;
-            }
-            InterfaceId::FIRST_ASSIGNABLE <= word % 0x4000_0000
-        }
+        None => count == 0,
+        Some(word) => count != 0 && InterfaceId::FIRST_ASSIGNABLE <= word % 0x4000_0000,
     }
 }
 
 pub(crate) fn allowed(interface: u32, b: RegisterRequestCallbackFields) -> bool
     ensures { result ≡ register_request_callback_given interface b }
 {
-    if !interface_allowed(interface) {
-        return false;
-    }
-    let completion = b.completion;
-    completion_allowed(b.count, completion)
+    interface_allowed(interface) && completion_allowed(b.count, b.completion)
 }
 
 pub(crate) fn pieces(id: MessageId, interface: u32, b: RegisterRequestCallbackFields) -> [Piece; 20]
@@ -57,12 +41,8 @@ pub(crate) fn pieces(id: MessageId, interface: u32, b: RegisterRequestCallbackFi
         RegisterRequestCallback::FUNCTION,
     );
     p[3] = Piece::Word(b.count as usize);
-    let completion = b.completion;
-    match completion {
-        RequestCompletion::Nothing => p,
-        RequestCompletion::Is(word) => {
-            p[4] = Piece::Word(word as usize);
-            p
-        }
+    if let Some(word) = b.completion {
+        p[4] = Piece::Word(word as usize);
     }
+    p
 }

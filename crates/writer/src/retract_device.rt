@@ -8,13 +8,11 @@ use header::ids::MessageId;
 use pieces::piece::Piece;
 use wire::retract_device::RetractDevice;
 
+// By the reader's definition, as in capability_request.rt.
 pub(crate) fn allowed(interface: u32, b: RetractDevice) -> bool
     ensures { result ≡ retract_device_given interface b }
 {
-    if !interface_allowed(interface) {
-        return false;
-    }
-    b.reason == 1
+    interface_allowed(interface) && b.reason == 1
 }
 
 pub(crate) fn pieces(id: MessageId, interface: u32, b: RetractDevice) -> [Piece; 20]

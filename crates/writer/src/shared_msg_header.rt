@@ -9,12 +9,10 @@ use pieces::piece::Piece;
 pub(crate) fn interface_allowed(interface: u32) -> bool
     ensures { result ≡ interface_allowed interface }
 {
-    if interface < InterfaceId::FIRST_ASSIGNABLE {
-        return false;
-    }
-    interface < 0x4000_0000
+    InterfaceId::FIRST_ASSIGNABLE <= interface && interface < 0x4000_0000
 }
 
+// The first pieces; the others stay Nothing: a message has at most so many, and nothing is allocated.
 pub(crate) fn start(interface: u32, mask: u32, id: MessageId, function: u32) -> [Piece; 20]
     ensures { result ≡ padded (head interface mask id function) }
 {

@@ -4,14 +4,13 @@ ghost use Rattle.std.specs.Prelude.{◌≡◌};
 ghost use Rattle.wire.specs.Message.{empty_part};
 ghost use Rattle.writer.specs.SharedMsgHeader.{padded};
 ghost use Rattle.writer.specs.TsUrb.{Small};
-ghost use Rattle.writer.specs.Transfer.{incoming_allowed, outgoing_allowed, request_word, transfer_in_given, transfer_out_given, transfer_pieces};
+ghost use Rattle.writer.specs.Transfer.{request_word, transfer_in_given, transfer_out_given, transfer_pieces};
 
 use crate::shared_msg_header::{interface_allowed, start};
-use crate::ts_urb::{Stated, TsUrbFields};
+use crate::ts_urb::TsUrbFields;
 use crate::{part, ts_urb};
 use header::ids::{MessageId, RequestId};
 use pieces::piece::Piece;
-use urb::ts_urb::Urb;
 use urb_values::values;
 use wire::transfer_in_request::TransferInRequest;
 use wire::transfer_out_request::TransferOutRequest;
@@ -30,53 +29,17 @@ pub struct TransferOutFields {
     pub output: Part,
 }
 
-fn incoming(noack: bool, urb: Urb, size: u32) -> bool
-    ensures { result ≡ incoming_allowed noack urb size }
-{
-    if noack {
-        return false;
-    }
-    if !values::allowed(urb) {
-        return false;
-    }
-    if values::only_in(urb) {
-        return size == 0;
-    }
-    true
-}
-
-fn outgoing(noack: bool, urb: Urb) -> bool
-    ensures { result ≡ outgoing_allowed noack urb }
-{
-    if !values::allowed(urb) {
-        return false;
-    }
-    if values::only_in(urb) {
-        return false;
-    }
-    if noack {
-        return values::may_no_ack(urb);
-    }
-    true
-}
-
 #[tactic(auto, unfolding(crate::specs::Transfer::transfer_in_given))]
 pub(crate) fn in_allowed(interface: u32, b: TransferInFields, lent: &[u8]) -> bool
     ensures { result ≡ transfer_in_given lent.now interface b }
 {
     let t = b.urb;
-    let request = t.request;
-    let structure = t.structure;
-    if !interface_allowed(interface) {
-        return false;
-    }
-    if 0x8000_0000 <= request.number() {
-        return false;
-    }
-    match ts_urb::state(t.function, structure, lent) {
-        Stated::Nothing => false,
-        Stated::Is(urb) => incoming(t.noack, urb, b.size),
-    }
+    interface_allowed(interface)
+        && t.request.number() < 0x8000_0000
+        && match ts_urb::state(t.function, t.structure, lent) {
+            None => false,
+            Some(urb) => values::incoming(t.noack, urb, b.size),
+        }
 }
 
 #[tactic(auto, unfolding(crate::specs::Transfer::transfer_out_given))]
@@ -84,21 +47,13 @@ pub(crate) fn out_allowed(interface: u32, b: TransferOutFields, lent: &[u8]) -> 
     ensures { result ≡ transfer_out_given lent.now interface b }
 {
     let t = b.urb;
-    let request = t.request;
-    let structure = t.structure;
-    if !interface_allowed(interface) {
-        return false;
-    }
-    if 0x8000_0000 <= request.number() {
-        return false;
-    }
-    if !part::allowed(lent, b.output) {
-        return false;
-    }
-    match ts_urb::state(t.function, structure, lent) {
-        Stated::Nothing => false,
-        Stated::Is(urb) => outgoing(t.noack, urb),
-    }
+    interface_allowed(interface)
+        && t.request.number() < 0x8000_0000
+        && part::allowed(lent, b.output)
+        && match ts_urb::state(t.function, t.structure, lent) {
+            None => false,
+            Some(urb) => values::outgoing(t.noack, urb),
+        }
 }
 
 // NoAck is the top bit of the RequestId's word.
@@ -123,20 +78,13 @@ fn pieces(
     requires { Small t.structure }
     ensures { result ≡ padded (transfer_pieces id interface function t size output) }
 {
-    let structure = t.structure;
-    let request = t.request;
-    let cb = ts_urb::size(structure);
-    let q = ts_urb::pieces(structure);
+    let cb = ts_urb::size(t.structure);
+    let q = ts_urb::pieces(t.structure);
     let mut p = start(interface, TransferInRequest::MASK, id, function);
     p[3] = Piece::Word(cb);
     p[4] = Piece::Word(cb + 65536 * t.function as usize);
-    p[5] = Piece::Word(request_word(request, t.noack));
-    p[6] = q[0];
-    p[7] = q[1];
-    p[8] = q[2];
-    p[9] = q[3];
-    p[10] = q[4];
-    p[11] = q[5];
+    p[5] = Piece::Word(request_word(t.request, t.noack));
+    p[6..12].copy_from_slice(&q);
     p[12] = Piece::Word(size);
     p[13] = Piece::Run(output);
     p
@@ -161,13 +109,12 @@ pub(crate) fn out_pieces(id: MessageId, interface: u32, b: TransferOutFields) ->
     requires { Small b.urb.structure }
     ensures { result ≡ padded (transfer_pieces id interface 0x106 b.urb b.output.size b.output) }
 {
-    let output = b.output;
     pieces(
         id,
         interface,
         TransferOutRequest::FUNCTION,
         b.urb,
-        output.size,
-        output,
+        b.output.size,
+        b.output,
     )
 }

@@ -1,16 +1,16 @@
 // A TS_URB (000 2.2.9) from its fields; urb::ts_urb and the files beside it have the layouts. Size, the packet count and, in an interface list, what stands as padding are not given.
-ghost use Rattle.std.specs.Prelude.{◌≡◌, ◌+◌, ◌≤◌, length};
+ghost use Rattle.std.specs.Prelude.{◌≡◌, ◌≤◌};
 ghost use Rattle.writer.specs.TsUrb.{Small, configuration_stated, descriptor_sized, interface_stated, isoch_stated, control_stated, listed_of, stated_of, structure_pieces, structure_size, suited};
 ghost use Rattle.writer.specs.declared.ts_urb.Structure.TheVariants as structure;
 
 use crate::part;
+use crate::part::{Held, lent_part};
 use header::ids::RequestId;
 use pieces::piece::Piece;
 use urb::bulk_or_interrupt_transfer::BulkOrInterruptTransfer;
 use urb::control_transfer::ControlTransfer;
 use urb::get_current_frame_number::GetCurrentFrameNumber;
 use urb::interfaces;
-use urb::interfaces::Walk;
 use urb::isoch_transfer::IsochTransfer;
 use urb::pipe_request::PipeRequest;
 use urb::select_configuration::{Descriptor, SelectConfiguration};
@@ -66,133 +66,90 @@ pub struct TsUrbFields {
     pub structure: Structure,
 }
 
-// What the reader is to make of a structure, if it can be written at all.
-#[derive(Clone, Copy)]
-pub enum Stated {
-    Nothing,
-    Is(Urb),
-}
-
 // The largest NumberOfPipes of an interface list, if it fills its part.
-#[derive(Clone, Copy)]
-pub enum Listed {
-    Nothing,
-    Pipes(u32),
-}
-
 #[tactic(auto, unfolding(crate::specs::TsUrb::listed_of))]
-fn list_pipes(lent: &[u8], part: Part, count: u32) -> Listed
-    requires { part.start + part.size ≤ length lent.now }
-    ensures { result ≡ listed_of lent.now part count }
+fn list_pipes(list: Held, count: u32) -> Option<u32>
+    ensures { result ≡ listed_of list.entry.lent.now list.entry.part count }
 {
-    let start = part.start;
-    let end = start + part.size;
-    match interfaces::list(&lent[..end], start, count) {
-        Walk::End(last, pipes) => {
-            if last != end {
-                return Listed::Nothing;
-            }
-            Listed::Pipes(pipes)
-        }
-        Walk::Fails(_) => Listed::Nothing,
+    let end = list.part.start + list.part.size;
+    let (last, pipes) = interfaces::list(&list.lent[..end], list.part.start, count).ok()?;
+    if last != end {
+        return None;
     }
+    Some(pipes)
 }
 
 // No descriptor beside flag 0, and at least 9 bytes beside another.
 fn descriptor_sized(flag: u32, size: usize) -> bool
     ensures { result ≡ descriptor_sized flag size }
 {
-    if flag == 0 {
-        return size == 0;
-    }
-    9 <= size
+    if flag == 0 { size == 0 } else { 9 <= size }
 }
 
 #[tactic(auto, unfolding(crate::specs::TsUrb::configuration_stated))]
-fn configuration(lent: &[u8], b: SelectConfigurationFields) -> Stated
+fn configuration(lent: &[u8], b: SelectConfigurationFields) -> Option<Urb>
     ensures { result ≡ configuration_stated lent.now b }
 {
-    let list = b.interfaces;
-    let d = b.descriptor;
     if 255 < b.flag {
-        return Stated::Nothing;
+        return None;
     }
-    if !part::allowed(lent, list) {
-        return Stated::Nothing;
+    let list = lent_part(lent, b.interfaces)?;
+    let d = lent_part(lent, b.descriptor)?;
+    if !descriptor_sized(b.flag, b.descriptor.size) {
+        return None;
     }
-    if !part::allowed(lent, d) {
-        return Stated::Nothing;
-    }
-    if !descriptor_sized(b.flag, d.size) {
-        return Stated::Nothing;
-    }
-    let at = d.start;
-    match list_pipes(lent, list, b.count) {
-        Listed::Nothing => Stated::Nothing,
-        Listed::Pipes(pipes) => Stated::Is(Urb::SelectConfiguration(SelectConfiguration {
-            flag: b.flag,
-            count: b.count,
-            interfaces: list,
-            pipes: pipes,
-            descriptor: Descriptor {
-                part: d,
-                first: byte_at(&lent[at..], 0),
-                second: byte_at(&lent[at..], 1),
-            },
-        })),
-    }
+    let pipes = list_pipes(list, b.count)?;
+    let behind = &d.lent[d.part.start..];
+    Some(Urb::SelectConfiguration(SelectConfiguration {
+        flag: b.flag,
+        count: b.count,
+        interfaces: b.interfaces,
+        pipes,
+        descriptor: Descriptor {
+            part: b.descriptor,
+            first: byte_at(behind, 0),
+            second: byte_at(behind, 1),
+        },
+    }))
 }
 
 #[tactic(auto, unfolding(crate::specs::TsUrb::interface_stated))]
-fn interface(lent: &[u8], b: SelectInterfaceFields) -> Stated
+fn interface(lent: &[u8], b: SelectInterfaceFields) -> Option<Urb>
     ensures { result ≡ interface_stated lent.now b }
 {
-    let one = b.interface;
-    if !part::allowed(lent, one) {
-        return Stated::Nothing;
-    }
-    match list_pipes(lent, one, 1) {
-        Listed::Nothing => Stated::Nothing,
-        Listed::Pipes(pipes) => Stated::Is(Urb::SelectInterface(SelectInterface {
-            handle: b.handle,
-            interface: one,
-            pipes: pipes,
-        })),
-    }
+    let pipes = list_pipes(lent_part(lent, b.interface)?, 1)?;
+    Some(Urb::SelectInterface(SelectInterface {
+        handle: b.handle,
+        interface: b.interface,
+        pipes,
+    }))
 }
 
 #[tactic(auto, unfolding(crate::specs::TsUrb::control_stated))]
-fn control(lent: &[u8], b: ControlTransfer) -> Stated
+fn control(lent: &[u8], b: ControlTransfer) -> Option<Urb>
     ensures { result ≡ control_stated lent.now b }
 {
-    let setup = b.setup;
-    if !part::allowed(lent, setup) {
-        return Stated::Nothing;
+    if part::allowed(lent, b.setup) && b.setup.size == 8 {
+        Some(Urb::ControlTransfer(b))
+    } else {
+        None
     }
-    if setup.size != 8 {
-        return Stated::Nothing;
-    }
-    Stated::Is(Urb::ControlTransfer(b))
 }
 
 #[tactic(auto, unfolding(crate::specs::TsUrb::isoch_stated))]
-fn isoch(lent: &[u8], b: IsochTransferFields) -> Stated
+fn isoch(lent: &[u8], b: IsochTransferFields) -> Option<Urb>
     ensures { result ≡ isoch_stated lent.now b }
 {
-    let list = b.list;
-    if !part::allowed(lent, list) {
-        return Stated::Nothing;
+    if !part::allowed(lent, b.list) || b.list.size % 12 != 0 {
+        return None;
     }
-    if list.size % 12 != 0 {
-        return Stated::Nothing;
-    }
-    Stated::Is(Urb::IsochTransfer(IsochTransfer {
+    Some(Urb::IsochTransfer(IsochTransfer {
         pipe: b.pipe,
         flags: b.flags,
         start: b.start,
-        packets: (list.size / 12) as u32,
+        packets: (b.list.size / 12) as u32,
         errors: b.errors,
-        list: list,
+        list: b.list,
     }))
 }
 
@@ -205,10 +162,8 @@ fn suits(function: u32, structure: Structure) -> bool
         Structure::SelectInterface(_) => function == SelectInterface::FUNCTION,
         Structure::GetCurrentFrameNumber => function == GetCurrentFrameNumber::FUNCTION,
         Structure::PipeRequest(_) => {
-            if function == PipeRequest::ABORT_PIPE {
-                return true;
-            }
-            function == PipeRequest::SYNC_RESET_PIPE_AND_CLEAR_STALL
+            function == PipeRequest::ABORT_PIPE
+                || function == PipeRequest::SYNC_RESET_PIPE_AND_CLEAR_STALL
         }
         Structure::BulkOrInterruptTransfer(_) => function == BulkOrInterruptTransfer::FUNCTION,
         Structure::ControlTransfer(_) => function == ControlTransfer::FUNCTION,
@@ -218,18 +173,18 @@ fn suits(function: u32, structure: Structure) -> bool
 
 // A structure under a function that it has.
 #[tactic(auto, unfolding(crate::specs::TsUrb::stated_of))]
-pub(crate) fn state(function: u32, structure: Structure, lent: &[u8]) -> Stated
+pub(crate) fn state(function: u32, structure: Structure, lent: &[u8]) -> Option<Urb>
     ensures { result ≡ stated_of lent.now function structure }
 {
     if !suits(function, structure) {
-        return Stated::Nothing;
+        return None;
     }
     match structure {
         Structure::SelectConfiguration(b) => configuration(lent, b),
         Structure::SelectInterface(b) => interface(lent, b),
-        Structure::GetCurrentFrameNumber => Stated::Is(Urb::GetCurrentFrameNumber),
-        Structure::PipeRequest(b) => Stated::Is(Urb::PipeRequest(b)),
-        Structure::BulkOrInterruptTransfer(b) => Stated::Is(Urb::BulkOrInterruptTransfer(b)),
+        Structure::GetCurrentFrameNumber => Some(Urb::GetCurrentFrameNumber),
+        Structure::PipeRequest(b) => Some(Urb::PipeRequest(b)),
+        Structure::BulkOrInterruptTransfer(b) => Some(Urb::BulkOrInterruptTransfer(b)),
         Structure::ControlTransfer(b) => control(lent, b),
         Structure::IsochTransfer(b) => isoch(lent, b),
     }
@@ -241,26 +196,13 @@ pub(crate) fn size(structure: Structure) -> usize
     ensures { (result ≡ structure_size structure) × (result ≤ 131086) }
 {
     match structure {
-        Structure::SelectConfiguration(b) => {
-            let list = b.interfaces;
-            let d = b.descriptor;
-            16 + list.size + d.size
-        }
-        Structure::SelectInterface(b) => {
-            let one = b.interface;
-            12 + one.size
-        }
+        Structure::SelectConfiguration(b) => 16 + b.interfaces.size + b.descriptor.size,
+        Structure::SelectInterface(b) => 12 + b.interface.size,
         Structure::GetCurrentFrameNumber => 8,
         Structure::PipeRequest(_) => 12,
         Structure::BulkOrInterruptTransfer(_) => 16,
-        Structure::ControlTransfer(b) => {
-            let setup = b.setup;
-            16 + setup.size
-        }
-        Structure::IsochTransfer(b) => {
-            let list = b.list;
-            28 + list.size
-        }
+        Structure::ControlTransfer(b) => 16 + b.setup.size,
+        Structure::IsochTransfer(b) => 28 + b.list.size,
     }
 }
 
@@ -268,27 +210,24 @@ fn configuration_pieces(b: SelectConfigurationFields) -> [Piece; 6]
     ensures { result ≡ structure_pieces (structure.SelectConfiguration b) }
 {
     let mut p = [Piece::Nothing; 6];
-    let list = b.interfaces;
-    let d = b.descriptor;
     p[0] = Piece::Word(b.flag as usize);
     p[1] = Piece::Word(b.count as usize);
-    p[2] = Piece::Interfaces(list);
-    p[3] = Piece::Run(d);
+    p[2] = Piece::Interfaces(b.interfaces);
+    p[3] = Piece::Run(b.descriptor);
     p
 }
 
 fn isoch_pieces(b: IsochTransferFields) -> [Piece; 6]
     ensures { result ≡ structure_pieces (structure.IsochTransfer b) }
 {
-    let mut p = [Piece::Nothing; 6];
-    let list = b.list;
-    p[0] = Piece::Word(b.pipe as usize);
-    p[1] = Piece::Word(b.flags as usize);
-    p[2] = Piece::Word(b.start as usize);
-    p[3] = Piece::Word(list.size / 12);
-    p[4] = Piece::Word(b.errors as usize);
-    p[5] = Piece::Run(list);
-    p
+    [
+        Piece::Word(b.pipe as usize),
+        Piece::Word(b.flags as usize),
+        Piece::Word(b.start as usize),
+        Piece::Word(b.list.size / 12),
+        Piece::Word(b.errors as usize),
+        Piece::Run(b.list),
+    ]
 }
 
 // The pieces behind its header.
@@ -299,9 +238,8 @@ pub(crate) fn pieces(structure: Structure) -> [Piece; 6]
     match structure {
         Structure::SelectConfiguration(b) => configuration_pieces(b),
         Structure::SelectInterface(b) => {
-            let one = b.interface;
             p[0] = Piece::Word(b.handle as usize);
-            p[1] = Piece::Interfaces(one);
+            p[1] = Piece::Interfaces(b.interface);
             p
         }
         Structure::GetCurrentFrameNumber => p,
@@ -315,10 +253,9 @@ pub(crate) fn pieces(structure: Structure) -> [Piece; 6]
             p
         }
         Structure::ControlTransfer(b) => {
-            let setup = b.setup;
             p[0] = Piece::Word(b.pipe as usize);
             p[1] = Piece::Word(b.flags as usize);
-            p[2] = Piece::Run(setup);
+            p[2] = Piece::Run(b.setup);
             p
         }
         Structure::IsochTransfer(b) => isoch_pieces(b),

@@ -12,6 +12,7 @@ use pieces::piece::Piece;
 use wire::urb_completion::UrbCompletion;
 use wire::urb_completion_no_data::UrbCompletionNoData;
 use words::layout::Part;
+use words::numbers::rest;
 
 // What both begin with.
 #[derive(Clone, Copy)]
@@ -41,25 +42,14 @@ pub struct UrbCompletionNoDataFields {
 pub(crate) fn result_allowed(interface: u32, b: UrbResultFields, lent: &[u8]) -> bool
     ensures { result ≡ result_given lent.now interface b }
 {
-    if !interface_allowed(interface) {
-        return false;
-    }
-    part::allowed(lent, b.rest)
+    interface_allowed(interface) && part::allowed(lent, b.rest)
 }
 
 // A kind 16 has data.
 pub(crate) fn allowed(interface: u32, b: UrbCompletionFields, lent: &[u8]) -> bool
     ensures { result ≡ urb_completion_given lent.now interface b }
 {
-    let urb = b.urb;
-    if !result_allowed(interface, urb, lent) {
-        return false;
-    }
-    let output = b.output;
-    if !part::allowed(lent, output) {
-        return false;
-    }
-    output.size != 0
+    result_allowed(interface, b.urb, lent) && part::allowed(lent, b.output) && b.output.size != 0
 }
 
 // OutputBufferSize is `size`, and the bytes behind it are `output`.
@@ -75,14 +65,12 @@ fn result_pieces(
     ensures { result ≡ padded (completion_pieces id interface function b size output) }
 {
     let mut p = start(interface, UrbCompletion::MASK, id, function);
-    let request = b.request;
-    let rest = b.rest;
-    let cb = 8 + rest.size;
-    p[3] = Piece::Word(request.number() as usize);
+    let cb = 8 + b.rest.size;
+    p[3] = Piece::Word(b.request.number() as usize);
     p[4] = Piece::Word(cb);
     p[5] = Piece::Word(cb);
     p[6] = Piece::Word(b.status as usize);
-    p[7] = Piece::Run(rest);
+    p[7] = Piece::Run(b.rest);
     p[8] = Piece::Word(b.result as usize);
     p[9] = Piece::Word(size);
     p[10] = Piece::Run(output);
@@ -93,14 +81,13 @@ pub(crate) fn pieces(id: MessageId, interface: u32, b: UrbCompletionFields) -> [
     requires { b.urb.rest.size ≤ 65535 }
     ensures { result ≡ padded (completion_pieces id interface 0x101 b.urb b.output.size b.output) }
 {
-    let output = b.output;
     result_pieces(
         id,
         interface,
         UrbCompletion::FUNCTION,
         b.urb,
-        output.size,
-        output,
+        b.output.size,
+        b.output,
     )
 }
 

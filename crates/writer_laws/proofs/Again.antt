@@ -1,4 +1,5 @@
 -- Every message that passes checks 3 to 8 on a table reached from a new one is rebuilt.
+use Rattle.std.specs.Prelude.{Option, Some, None, Result, Ok, Err}
 use Prim.Native.Nat.{ℕ, ◌+◌, ◌≤◌}
 use native.Mathlib.Omega.{arith}
 use mathlib.Core.Path.{◌≡◌, refl, ap, ◌∙◌}
@@ -18,18 +19,14 @@ use Rattle.answers.specs.declared.kind.Kind.{Kind}
 use Rattle.answers.specs.declared.kind.Kind.TheVariants as kind
 use Rattle.wire.specs.Message.{asked_of}
 use Rattle.wire.specs.Reading.{reading_of}
-use Rattle.wire.specs.declared.message.Asked.{Asked}
 use Rattle.wire.specs.declared.message.Asked.TheVariants as asks
 use Rattle.kinds.specs.Kinds.{first_fitting, kinds}
-use Rattle.kinds.specs.declared.kind.KindFound.{KindFound}
-use Rattle.kinds.specs.declared.kind.KindFound.TheVariants as found
 use Rattle.channel.specs.declared.channel.Channel.{Channel}
 use Rattle.rules.specs.Decide.{decided}
 use Rattle.rules.specs.declared.decide.Seen.{Seen}
 use Rattle.turn.specs.Admit.{admitted, asks_as, asks_in, from_head, from_header}
 use Rattle.turn.specs.Step.{verdict_by, verdict_of}
 use Rattle.turn.specs.Store.{seen_of}
-use Rattle.turn.specs.declared.admit.Admitted.{Admitted}
 use Rattle.table.specs.Entry.{answer_of}
 use Rattle.table.specs.Table.{channel_of, judge_of, open_of}
 use Rattle.table.specs.declared.table.Judged.{Judged}
@@ -49,6 +46,10 @@ use Rattle.writer_laws.proofs.Rebuilt as simple
 use Rattle.writer_laws.proofs.RebuiltDevice.{device_rebuilt}
 use Rattle.writer_laws.proofs.RebuiltTransfer.{in_rebuilt, out_rebuilt}
 use Rattle.writer_laws.proofs.Headers.{HeadOf, kind_head}
+use Rattle.wire.specs.declared.message.Asked.{Asked}
+use Rattle.wire.specs.declared.message.Unfit.{Unfit}
+use Rattle.wire.specs.declared.message.Unfit.TheVariants as unfit
+use Rattle.rules.specs.declared.verdict.Refusal.{Refusal}
 
 -- one law for all kinds
 pub rebuilt_kind : (k : Kind) (m : List ℕ) → 12 ≤ length m → length m ≤ 65535 → Bytes m → HeadOf k m → asks_some (asked_of k m) ≡ true → Rebuilt k m
@@ -93,31 +94,31 @@ fails : {A : Type 0} (n : ℕ) → 1 ≤ n → n ≤ 8 → Passing n → A
 fails n a b (inl e) = absurd (omega arith)
 fails n a b (inr e) = absurd (omega arith)
 
-asks_passed : (k : Kind) (a : Asked) (n jitter : ℕ) (seen : Seen) → Passes (answer_of (decided k a n jitter seen)) → asks_some a ≡ true
+asks_passed : (k : Kind) (a : Result Asked Unfit) (n jitter : ℕ) (seen : Seen) → Passes (answer_of (decided k a n jitter seen)) → asks_some a ≡ true
 unfolding decided answer_of
-asks_passed k (asks.Fails fault) n jitter seen p = fails 7 (omega arith) (omega arith) p
-asks_passed k asks.Value n jitter seen p = fails 8 (omega arith) (omega arith) p
-asks_passed k asks.Step n jitter seen p = refl
-asks_passed k (asks.Device id ms) n jitter seen p = refl
-asks_passed k (asks.Callback id) n jitter seen p = refl
-asks_passed k (asks.IoControl r) n jitter seen p = refl
-asks_passed k (asks.TransferIn r) n jitter seen p = refl
-asks_passed k (asks.TransferOut r) n jitter seen p = refl
-asks_passed k (asks.Cancel id) n jitter seen p = refl
-asks_passed k asks.Retract n jitter seen p = refl
-asks_passed k (asks.IoCompletion c) n jitter seen p = refl
-asks_passed k (asks.UrbCompletion c) n jitter seen p = refl
-asks_passed k (asks.UrbCompletionNoData c) n jitter seen p = refl
+asks_passed k (Err (unfit.Sizes fault)) n jitter seen p = fails 7 (omega arith) (omega arith) p
+asks_passed k (Err unfit.Value) n jitter seen p = fails 8 (omega arith) (omega arith) p
+asks_passed k (Ok asks.Step) n jitter seen p = refl
+asks_passed k (Ok (asks.Device id ms)) n jitter seen p = refl
+asks_passed k (Ok (asks.Callback id)) n jitter seen p = refl
+asks_passed k (Ok (asks.IoControl r)) n jitter seen p = refl
+asks_passed k (Ok (asks.TransferIn r)) n jitter seen p = refl
+asks_passed k (Ok (asks.TransferOut r)) n jitter seen p = refl
+asks_passed k (Ok (asks.Cancel id)) n jitter seen p = refl
+asks_passed k (Ok asks.Retract) n jitter seen p = refl
+asks_passed k (Ok (asks.IoCompletion c)) n jitter seen p = refl
+asks_passed k (Ok (asks.UrbCompletion c)) n jitter seen p = refl
+asks_passed k (Ok (asks.UrbCompletionNoData c)) n jitter seen p = refl
 
 module _ (c : Channel) (n side : ℕ) (m : List ℕ) where
   -- what passes has a kind, a length that is allowed, and asks something
-  abbrev Tells : Admitted → Type 0
+  abbrev Tells : Result (Kind × Result Asked Unfit) Refusal → Type 0
   Tells a = Passes (answer_of (verdict_by c n a)) → (k : Kind) × HasKind c side m k × (12 ≤ length m) × (length m ≤ 65535) × (asks_some (asked_of k m) ≡ true)
 
-  kind_tells : (f : KindFound) → 12 ≤ length m → length m ≤ 65535 → first_fitting kinds (head_in m) side c.device c.callback ≡ f → Tells (asks_as c.phase f m)
+  kind_tells : (f : Option Kind) → 12 ≤ length m → length m ≤ 65535 → first_fitting kinds (head_in m) side c.device c.callback ≡ f → Tells (asks_as c.phase f m)
   unfolding asks_in answer_of
-  kind_tells found.Nothing l h e = λ p. fails 5 (omega arith) (omega arith) p
-  kind_tells (found.Is k) l h e =
+  kind_tells None l h e = λ p. fails 5 (omega arith) (omega arith) p
+  kind_tells (Some k) l h e =
       either Tells (eqb (phases_of k).before c.phase) _ _
       (λ t. λ p. (k, e, l, h, asks_passed k (asked_of k m) n c.jitter (seen_of c (asked_of k m)) p))
       (λ t. λ p. fails 6 (omega arith) (omega arith) p)

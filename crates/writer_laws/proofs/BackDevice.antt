@@ -1,4 +1,6 @@
 -- What is written of ADD_DEVICE is read back as the same fields.
+use Rattle.std.proofs.lemmas.Bool.{and_parts}
+use Rattle.std.specs.Prelude.{Some, Ok, Err}
 use Prim.Native.Nat.{ℕ, ◌+◌, ◌-◌, ◌*◌, ◌/◌, ◌%◌, ◌<◌, ◌≤◌}
 use native.Mathlib.Omega.{arith}
 use mathlib.Core.Path.{◌≡◌, refl, ap, sym, subst, ◌∙◌}
@@ -9,13 +11,10 @@ use Rattle.words.specs.Words.{half_at, word_at}
 use Rattle.words.specs.Layout.{left}
 use Rattle.words.specs.declared.layout.Part.{Part}
 use Rattle.texts.specs.Text.{list_allowed, text_allowed, text_of, units_of}
-use Rattle.texts.specs.declared.text.TextRead.TheVariants as text
 use Rattle.device.specs.DeviceCapabilities.{capabilities_allowed, capabilities_of}
 use Rattle.device.specs.declared.device_capabilities.DeviceCapabilities.{DeviceCapabilities}
 use Rattle.wire.specs.AddDevice.{add_device_allowed, add_device_of, classes_from, device_of, names_from, pair_from, pair_of, pair_with}
-use Rattle.wire.specs.declared.add_device.PairRead.TheVariants as pair
 use Rattle.wire.specs.declared.add_device.AddDevice.{AddDevice}
-use Rattle.wire.specs.declared.add_device.AddDeviceRead.TheVariants as add_device
 use lib.ListN.{length, drop}
 use lib.Seq.{get_or-drop, get_or-take}
 use borrow.Author.Tests.{eqb-true, le-ltb, ltb-false}
@@ -24,7 +23,6 @@ use Rattle.header.specs.declared.ids.MessageId.{MessageId}
 use Rattle.wire.specs.Message.{asked_of, asks_by}
 use Rattle.wire.specs.Reading.{add_device_reading, reading_of}
 use Rattle.pieces.specs.Pieces.{cut, total_from}
-use Rattle.pieces.specs.declared.piece.Total.TheVariants as total
 use Rattle.writer.specs.AddDevice.{add_device_given, list_fits, text_fits, text_given, unit_before}
 use Rattle.writer.specs.Part.{part_allowed}
 use Rattle.writer.specs.Message.{bytes_of, pieces_of}
@@ -38,17 +36,17 @@ use Rattle.writer_laws.specs.Layout.{Bytes}
 use Rattle.writer_laws.specs.Rebuilt.{asks_some}
 use Rattle.writer_laws.specs.ReadBack.{Wide32, numbers_of, parts_of}
 use Rattle.writer_laws.proofs.Places.{places}
-use Rattle.writer_laws.proofs.RebuiltDevice.{split, text_at, text_same}
+use Rattle.writer_laws.proofs.RebuiltDevice.{text_at, text_same}
 use Rattle.writer_laws.proofs.Back.{Back, ended_there, field_there, long_of, message_back, same, some, within}
 
 -- a text whose count and units are there
-text_there : (m : List ℕ) (at : ℕ) → at + 4 + 2 * word_at m at ≤ length m → text_of m at ≡ text.Fits (text_at m at) (at + 4 + 2 * word_at m at)
+text_there : (m : List ℕ) (at : ℕ) → at + 4 + 2 * word_at m at ≤ length m → text_of m at ≡ Ok ((text_at m at), (at + 4 + 2 * word_at m at))
 unfolding text_of units_of
-text_there m at h = field_there text.Fails m at 4 _ (omega arith) ∙ field_there text.Fails m (at + 4) (2 * word_at m at) _ (omega arith)
+text_there m at h = field_there m at 4 _ (omega arith) ∙ field_there m (at + 4) (2 * word_at m at) _ (omega arith)
 
 -- with the place where it ends given
-text_at_lem : (m : List ℕ) (at n end : ℕ) → 2 * word_at m at ≡ n → at + 4 + n ≡ end → end ≤ length m → text_of m at ≡ text.Fits (text_at m at) end
-text_at_lem m at n end e f h = text_there m at (subst (λ x. at + 4 + x ≤ length m) (sym e) (subst (λ x. x ≤ length m) (sym f) h)) ∙ ap (λ x. text.Fits (text_at m at) x) (ap (λ x. at + 4 + x) e ∙ f)
+text_at_lem : (m : List ℕ) (at n end : ℕ) → 2 * word_at m at ≡ n → at + 4 + n ≡ end → end ≤ length m → text_of m at ≡ Ok ((text_at m at), end)
+text_at_lem m at n end e f h = text_there m at (subst (λ x. at + 4 + x ≤ length m) (sym e) (subst (λ x. x ≤ length m) (sym f) h)) ∙ ap (λ x. Ok ((text_at m at), x)) (ap (λ x. at + 4 + x) e ∙ f)
 
 -- the same bytes in two parts: the units that a text ends in are the same
 pub byte_in : (w s : List ℕ) (p q : Part) (o : ℕ) → p.size ≡ q.size → cut w p ≡ cut s q → o < p.size → byte_at w (p.start + o) ≡ byte_at s (q.start + o)
@@ -98,21 +96,21 @@ last m = second m (second m (third m))
 abbrev found : List ℕ → AddDevice
 found m = record { count = word_at m 12; device = interface_in (word_at m 16); top = mask_in (word_at m 16); instance = text_at m 20; hardware = text_at m (second m 20); compatible = text_at m (third m); container = text_at m (second m (third m)); capabilities = record { size = word_at m (last m); bus = word_at m (last m + 4); usbdi = word_at m (last m + 8); usb = word_at m (last m + 12); host = word_at m (last m + 16); speed = word_at m (last m + 20); jitter = word_at m (last m + 24) } }
 
-pair_there : (m : List ℕ) (at : ℕ) → second m (second m at) ≤ length m → pair_of m at ≡ pair.Fits (record { first = text_at m at; second = text_at m (second m at) }) (second m (second m at))
+pair_there : (m : List ℕ) (at : ℕ) → second m (second m at) ≤ length m → pair_of m at ≡ Ok ((record { first = text_at m at; second = text_at m (second m at) }), (second m (second m at)))
 unfolding pair_of
 pair_there m at h = ap (pair_from m) (text_there m at (first (second m at) (2 * word_at m (second m at)) (length m) h)) ∙ ap (pair_with (text_at m at)) (text_there m (second m at) h)
   where
     first : (x n l : ℕ) → x + 4 + n ≤ l → x ≤ l
     first x n l h = omega arith
 
-device_there : (m : List ℕ) → length m ≡ last m + 28 → add_device_of m ≡ add_device.Fits (found m)
+device_there : (m : List ℕ) → length m ≡ last m + 28 → add_device_of m ≡ Ok (found m)
 unfolding add_device_of device_of capabilities_of
 device_there m l =
-    field_there add_device.Fails m 12 4 _ (early (2 * word_at m 20) (2 * word_at m (second m 20)) (2 * word_at m (third m)) (2 * word_at m (second m (third m))) (length m) 16 l (omega arith)) ∙
-    (field_there add_device.Fails m 16 4 _ (early (2 * word_at m 20) (2 * word_at m (second m 20)) (2 * word_at m (third m)) (2 * word_at m (second m (third m))) (length m) 20 l (omega arith)) ∙
+    field_there m 12 4 _ (early (2 * word_at m 20) (2 * word_at m (second m 20)) (2 * word_at m (third m)) (2 * word_at m (second m (third m))) (length m) 16 l (omega arith)) ∙
+    (field_there m 16 4 _ (early (2 * word_at m 20) (2 * word_at m (second m 20)) (2 * word_at m (third m)) (2 * word_at m (second m (third m))) (length m) 20 l (omega arith)) ∙
     (ap (names_from m) (pair_there m 20 (middle (third m) (2 * word_at m (third m)) (2 * word_at m (second m (third m))) (length m) l)) ∙
     (ap (classes_from m (record { first = text_at m 20; second = text_at m (second m 20) })) (pair_there m (third m) (end (last m) (length m) l)) ∙
-    (rw (le-ltb (left m (last m)) 28 (room (last m) (length m) l)) (ended_there add_device.Fails m (last m + 28) _ (within (length m) (last m + 28) (last m + 28) l (omega arith)))))))
+    (rw (le-ltb (left m (last m)) 28 (room (last m) (length m) l)) (ended_there m (last m + 28) _ (within (length m) (last m + 28) (last m + 28) l (omega arith)))))))
   where
     early : (a b c d l k : ℕ) → l ≡ 20 + 4 + a + 4 + b + 4 + c + 4 + d + 28 → k ≤ 20 → k ≤ l
     early a b c d l k e h = omega arith
@@ -139,8 +137,8 @@ cut_step w s at at' n q e f g = ap (λ x. cut w (record { start = x + 4; size = 
 
 fits_parts : (s : List ℕ) (q : Part) (t : Bool) → (part_allowed s q && (eqb (q.size % 2) 0 && t)) ≡ true → (part_allowed s q ≡ true) × (q.size % 2 ≡ 0) × (t ≡ true)
 fits_parts s q t e =
-    let a = split (part_allowed s q) (eqb (q.size % 2) 0 && t) e in
-    let b = split (eqb (q.size % 2) 0) t a.1 in
+    let a = and_parts (part_allowed s q) (eqb (q.size % 2) 0 && t) e in
+    let b = and_parts (eqb (q.size % 2) 0) t a.1 in
     (a.0, eqb-true (q.size % 2) 0 b.0, b.1)
 
 half_small : (s : List ℕ) (q : Part) → part_allowed s q ≡ true → q.size / 2 < 4294967296
@@ -150,7 +148,7 @@ half_small s q e = let h = (lies s q e).1 in omega arith
 cap_at : (w : List ℕ) (x y k k' v : ℕ) → x ≡ y → y + k ≡ k' → word_at w k' ≡ v → word_at w (x + k) ≡ v
 cap_at w x y k k' v e f g = ap (λ z. word_at w (z + k)) e ∙ (ap (λ z. word_at w z) f ∙ g)
 
-pub device_back : (id : MessageId) (b : AddDeviceFields) (s : List ℕ) → Bytes s → (n : ℕ) → total_from (length s) 0 (pieces_of id (fields.AddDevice b)) ≡ total.Fits n → add_device_given s b ≡ true → Wide32 id (fields.AddDevice b) → Back id (fields.AddDevice b) s 1 1 0x101
+pub device_back : (id : MessageId) (b : AddDeviceFields) (s : List ℕ) → Bytes s → (n : ℕ) → total_from (length s) 0 (pieces_of id (fields.AddDevice b)) ≡ Some n → add_device_given s b ≡ true → Wide32 id (fields.AddDevice b) → Back id (fields.AddDevice b) s 1 1 0x101
 unfolding asked_of reading_of pieces_of fields_in add_device_in numbers_of parts_of add_device_given add_device_allowed
 device_back id b s bytes n t given wide =
     let w = bytes_of id (fields.AddDevice b) s in
@@ -161,12 +159,12 @@ device_back id b s bytes n t given wide =
     let b3 = list_fits s b.hardware in
     let b2 = text_fits s b.instance in
     let b1 = assignable (interface_in b.device) in
-    let g0 = split (eqb b.count 1) (b1 && (b2 && (b3 && (b4 && (b5 && b6))))) given in
-    let g1 = split b1 (b2 && (b3 && (b4 && (b5 && b6)))) g0.1 in
-    let g2 = split b2 (b3 && (b4 && (b5 && b6))) g1.1 in
-    let g3 = split b3 (b4 && (b5 && b6)) g2.1 in
-    let g4 = split b4 (b5 && b6) g3.1 in
-    let g5 = split b5 b6 g4.1 in
+    let g0 = and_parts (eqb b.count 1) (b1 && (b2 && (b3 && (b4 && (b5 && b6))))) given in
+    let g1 = and_parts b1 (b2 && (b3 && (b4 && (b5 && b6)))) g0.1 in
+    let g2 = and_parts b2 (b3 && (b4 && (b5 && b6))) g1.1 in
+    let g3 = and_parts b3 (b4 && (b5 && b6)) g2.1 in
+    let g4 = and_parts b4 (b5 && b6) g3.1 in
+    let g5 = and_parts b5 b6 g4.1 in
     let f2 = fits_parts s b.instance (text_allowed (text_given s b.instance)) g2.0 in
     let f3 = fits_parts s b.hardware (list_allowed (text_given s b.hardware)) g3.0 in
     let f4 = fits_parts s b.compatible (list_allowed (text_given s b.compatible)) g4.0 in

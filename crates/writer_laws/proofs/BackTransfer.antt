@@ -1,4 +1,6 @@
 -- What is written of a transfer request is read back as the same fields.
+use Rattle.std.proofs.lemmas.Bool.{and_parts}
+use Rattle.std.specs.Prelude.{Option, Some, None, Ok, Err}
 use Prim.Native.Nat.{ℕ, suc, ◌+◌, ◌-◌, ◌*◌, ◌/◌, ◌%◌, ◌<◌, ◌≤◌}
 use native.Mathlib.Omega.{arith}
 use mathlib.Core.Path.{◌≡◌, refl, ap, sym, subst, ◌∙◌}
@@ -15,16 +17,11 @@ use Rattle.urb.specs.declared.ts_urb.Urb.{Urb}
 use Rattle.urb.specs.declared.ts_urb.Urb.TheVariants as urb
 use Rattle.urb_values.specs.Values.{may_no_ack, only_in, urb_allowed}
 use Rattle.writer.specs.Part.{part_allowed}
-use Rattle.writer.specs.declared.ts_urb.Stated.{Stated}
-use Rattle.writer.specs.declared.ts_urb.Stated.TheVariants.{Is}
-use Rattle.writer.specs.declared.ts_urb.Listed.TheVariants as listed
 use Rattle.fields.specs.Transfer.{structure_in}
 use Rattle.pieces.specs.Pieces as pieces
 use Rattle.pieces.specs.declared.piece.Piece.{Piece}
 use Rattle.writer.specs.declared.ts_urb.Structure.{Structure}
 use Rattle.writer.specs.declared.ts_urb.Structure.TheVariants as structure
-use Rattle.writer.specs.declared.ts_urb.Stated.TheVariants as stated
-use Rattle.writer.specs.declared.ts_urb.Listed.{Listed}
 use Rattle.writer.proofs.Lies.{lies}
 use lib.Seq.{length-take-le}
 use borrow.Author.Tests.{eq-eqb, eqb-true, le-leb, lt-leb, ltb-true}
@@ -32,23 +29,19 @@ use Rattle.header.specs.Ids.{no_ack_in, urb_request_in}
 use Rattle.header.specs.declared.ids.MessageId.{MessageId}
 use Rattle.header.specs.declared.ids.RequestId.{RequestId}
 use Rattle.urb.specs.TsUrb.{ts_urb_of, urb_with}
-use Rattle.urb.specs.declared.ts_urb.TsUrbRead.TheVariants as ts
 use Rattle.wire.specs.Transfer.{output_of, transfer_from, transfer_of, transfer_with}
 use Rattle.wire.specs.TransferInRequest.{incoming_from, transfer_in_request_allowed, transfer_in_request_of}
 use Rattle.wire.specs.TransferOutRequest.{outgoing_from, outgoing_of, transfer_out_request_allowed, transfer_out_request_of}
-use Rattle.wire.specs.declared.transfer.TransferRead.TheVariants as transfer
-use Rattle.wire.specs.declared.transfer_in_request.TransferInRequestRead.TheVariants as transfer_in_request
-use Rattle.wire.specs.declared.transfer_out_request.TransferOutRequestRead.TheVariants as transfer_out_request
 use Rattle.answers.specs.declared.kind.Kind.TheVariants as kind
 use Rattle.wire.specs.Message.{asked_of, asks_by, empty_part}
 use Rattle.wire.specs.declared.message.Request.{Request}
 use Rattle.wire.specs.declared.message.Asked.TheVariants as asks
 use Rattle.wire.specs.Reading.{reading_of, transfer_in_request_reading, transfer_out_request_reading}
 use Rattle.pieces.specs.declared.piece.Piece.TheVariants.{Word, Run}
-use Rattle.pieces.specs.declared.piece.Total.TheVariants as total
 use Rattle.writer.specs.SharedMsgHeader.{interface_allowed}
 use Rattle.writer.specs.TsUrb.{configuration_by, configuration_stated, descriptor_sized, interface_by, interface_stated, listed_of, stated_of, structure_pieces, structure_size}
-use Rattle.writer.specs.Transfer.{incoming_allowed, incoming_by, outgoing_allowed, outgoing_by, request_allowed, request_word, transfer_in_given, transfer_out_given}
+use Rattle.urb_values.specs.Values.{incoming_allowed, outgoing_allowed}
+use Rattle.writer.specs.Transfer.{incoming_by, outgoing_by, request_allowed, request_word, transfer_in_given, transfer_out_given}
 use Rattle.writer.specs.Message.{bytes_of, pieces_of}
 use Rattle.writer.specs.declared.ts_urb.TsUrbFields.{TsUrbFields}
 use Rattle.writer.specs.declared.transfer.TransferInFields.{TransferInFields}
@@ -62,13 +55,13 @@ use Rattle.writer_laws.specs.Rebuilt.{asks_some}
 use Rattle.writer_laws.specs.ReadBack.{Wide32, bit, numbers_of, parts_of, structure_numbers, structure_parts}
 use Rattle.writer_laws.proofs.Places.{encode_is_bytes, fits-length, places}
 use Rattle.writer_laws.proofs.Rebuilt.{both, refused}
-use Rattle.writer_laws.proofs.RebuiltDevice.{split}
 use Rattle.writer_laws.proofs.Walks.{along, half-take, word-take}
 use Rattle.writer_laws.proofs.Back.{Back, agrees_there, at_least_there, below_30, ended_there, field_there, filled_there, first_below, interface_back, long_of, message_back, part_small, same, some}
 use Rattle.writer_laws.proofs.BackUrb.{fills, held, nothing, structure_back, unmet}
+use Rattle.urb.specs.declared.ts_urb.TsUrb.{TsUrb}
 
 -- an interface list that fills its part is whole rows
-list_rows : (s : List ℕ) (p : Part) (count pipes : ℕ) → listed_of s p count ≡ listed.Pipes pipes → part_allowed s p ≡ true → (r : ℕ) × (p.size ≡ 12 * r)
+list_rows : (s : List ℕ) (p : Part) (count pipes : ℕ) → listed_of s p count ≡ Some pipes → part_allowed s p ≡ true → (r : ℕ) × (p.size ≡ 12 * r)
 unfolding listed_of
 list_rows s p count pipes e a =
     let e' = p.start + p.size in
@@ -87,7 +80,7 @@ Rows (structure.ControlTransfer b) = Unit {0}
 Rows (structure.IsochTransfer b) = Unit {0}
 
 -- a structure that can be written has one of 01's functions, and its interface list is whole rows
-stated_rows : (s : List ℕ) (f : ℕ) (st : Structure) (x : Urb) → stated_of s f st ≡ Is x → (f ≤ 30) × Rows st
+stated_rows : (s : List ℕ) (f : ℕ) (st : Structure) (x : Urb) → stated_of s f st ≡ Some x → (f ≤ 30) × Rows st
 unfolding stated_of configuration_stated interface_stated
 stated_rows s f (structure.SelectConfiguration b) x e =
     let a = held (eqb f 0) (configuration_stated s b) x e in
@@ -98,22 +91,22 @@ stated_rows s f (structure.SelectConfiguration b) x e =
     let g = eqb-true f 0 a.0 in
     (omega arith, go (listed_of s b.interfaces b.count) refl a4.1 a2.0)
   where
-    go : (l : Listed) → listed_of s b.interfaces b.count ≡ l → configuration_by s b l ≡ Is x → part_allowed s b.interfaces ≡ true → (r : ℕ) × (b.interfaces.size ≡ 12 * r)
-    go listed.Nothing l e a = nothing e
-    go (listed.Pipes pipes) l e a = list_rows s b.interfaces b.count pipes l a
+    go : (l : Option ℕ) → listed_of s b.interfaces b.count ≡ l → configuration_by s b l ≡ Some x → part_allowed s b.interfaces ≡ true → (r : ℕ) × (b.interfaces.size ≡ 12 * r)
+    go None l e a = nothing e
+    go (Some pipes) l e a = list_rows s b.interfaces b.count pipes l a
 stated_rows s f (structure.SelectInterface b) x e =
     let a = held (eqb f 1) (interface_stated s b) x e in
     let a1 = held (part_allowed s b.interface) _ x a.1 in
     let g = eqb-true f 1 a.0 in
     (omega arith, go (listed_of s b.interface 1) refl a1.1 a1.0)
   where
-    go : (l : Listed) → listed_of s b.interface 1 ≡ l → interface_by b l ≡ Is x → part_allowed s b.interface ≡ true → (r : ℕ) × (b.interface.size ≡ 12 * r)
-    go listed.Nothing l e a = nothing e
-    go (listed.Pipes pipes) l e a = list_rows s b.interface 1 pipes l a
+    go : (l : Option ℕ) → listed_of s b.interface 1 ≡ l → interface_by b l ≡ Some x → part_allowed s b.interface ≡ true → (r : ℕ) × (b.interface.size ≡ 12 * r)
+    go None l e a = nothing e
+    go (Some pipes) l e a = list_rows s b.interface 1 pipes l a
 stated_rows s f structure.GetCurrentFrameNumber x e = let g = eqb-true f 7 (held (eqb f 7) _ x e).0 in (omega arith, tt)
 stated_rows s f (structure.PipeRequest b) x e = go (eqb f 2) refl e
   where
-    go : (t : Bool) → eqb f 2 ≡ t → cond t (Is (urb.PipeRequest b)) (cond (eqb f 0x1E) (Is (urb.PipeRequest b)) stated.Nothing) ≡ Is x → (f ≤ 30) × Unit {0}
+    go : (t : Bool) → eqb f 2 ≡ t → cond t (Some (urb.PipeRequest b)) (cond (eqb f 0x1E) (Some (urb.PipeRequest b)) None) ≡ Some x → (f ≤ 30) × Unit {0}
     go true g e = let h = eqb-true f 2 g in (omega arith, tt)
     go false g e = let h = eqb-true f 0x1E (held (eqb f 0x1E) _ x e).0 in (omega arith, tt)
 stated_rows s f (structure.BulkOrInterruptTransfer b) x e = let g = eqb-true f 9 (held (eqb f 9) _ x e).0 in (omega arith, tt)
@@ -175,7 +168,7 @@ pub record Kept (w s : List ℕ) (t : TsUrbFields) (size : ℕ) (run : Part) (x 
   pub found : Urb
   pub cb : word_at w 12 ≡ structure_size t.structure
   pub long : length w ≡ 16 + structure_size t.structure + 4 + run.size
-  pub reads : ts_urb_of (take (16 + word_at w 12) w) ≡ ts.Fits (record { size = structure_size t.structure; function = t.function; request = t.request; noack = t.noack; urb = found }) (16 + structure_size t.structure)
+  pub reads : ts_urb_of (take (16 + word_at w 12) w) ≡ Ok ((record { size = structure_size t.structure; function = t.function; request = t.request; noack = t.noack; urb = found }), (16 + structure_size t.structure))
   pub allowed : urb_allowed found ≡ urb_allowed x
   pub only : only_in found ≡ only_in x
   pub mayno : may_no_ack found ≡ may_no_ack x
@@ -184,7 +177,7 @@ pub record Kept (w s : List ℕ) (t : TsUrbFields) (size : ℕ) (run : Part) (x 
   pub last : word_at w (16 + structure_size t.structure) ≡ size
   pub output : pieces.cut w (record { start = 16 + structure_size t.structure + 4; size = run.size }) ≡ pieces.cut s run
 
-kept : (w s : List ℕ) (t : TsUrbFields) (size : ℕ) (output : Part) (x : Urb) → Bytes w → Bytes s → length w ≤ 65535 → stated_of s t.function t.structure ≡ Is x → t.request.0 < 0x8000_0000 → size < 4294967296 → ((j : ℕ) → get_or (structure_numbers t.structure) j 0 < 4294967296)
+kept : (w s : List ℕ) (t : TsUrbFields) (size : ℕ) (output : Part) (x : Urb) → Bytes w → Bytes s → length w ≤ 65535 → stated_of s t.function t.structure ≡ Some x → t.request.0 < 0x8000_0000 → size < 4294967296 → ((j : ℕ) → get_or (structure_numbers t.structure) j 0 < 4294967296)
     → Places w s 12 (Word (structure_size t.structure) ∷ Word (structure_size t.structure + 65536 * t.function) ∷ Word (request_word t.request t.noack) ∷ (structure_pieces t.structure ++ (Word size ∷ Run output ∷ [])))
     → Kept w s t size output x
 unfolding ts_urb_of
@@ -208,7 +201,7 @@ kept w s t size output x bw bs fits e r small narrow p =
       found = b.found;
       cb = e12;
       long = l;
-      reads = ap (λ n. ts_urb_of (take (16 + n) w)) e12 ∙ (agrees_there ts.Fails (eqb (half_at u 16) (left u 16)) 16 _ (eq-eqb (half_at u 16) (left u 16) (h16 ∙ sym lu)) ∙
+      reads = ap (λ n. ts_urb_of (take (16 + n) w)) e12 ∙ (agrees_there (eqb (half_at u 16) (left u 16)) 16 _ (eq-eqb (half_at u 16) (left u 16) (h16 ∙ sym lu)) ∙
           (ap (λ n. urb_with u (structure_of u n)) h18 ∙ (ap (urb_with u) b.reads ∙ rw (h16, h18, k.0, k.1))));
       allowed = b.allowed;
       only = b.only;
@@ -273,21 +266,21 @@ module _ (w : List ℕ) (c d : ℕ) (cb : word_at w 12 ≡ c) (l : length w ≡ 
   filled_up : 16 + word_at w 12 ≤ 16 + c
   filled_up = rw cb (omega arith)
 
-incoming_x : (b : TransferInFields) (r : Stated) → incoming_by b r ≡ true → (x : Urb) × (r ≡ Is x) × (incoming_allowed b.urb.noack x b.size ≡ true)
-incoming_x b stated.Nothing e = refused e
-incoming_x b (Is x) e = (x, refl, e)
+incoming_x : (b : TransferInFields) (r : Option Urb) → incoming_by b r ≡ true → (x : Urb) × (r ≡ Some x) × (incoming_allowed b.urb.noack x b.size ≡ true)
+incoming_x b None e = refused e
+incoming_x b (Some x) e = (x, refl, e)
 
-outgoing_x : (b : TransferOutFields) (r : Stated) → outgoing_by b r ≡ true → (x : Urb) × (r ≡ Is x) × (outgoing_allowed b.urb.noack x ≡ true)
-outgoing_x b stated.Nothing e = refused e
-outgoing_x b (Is x) e = (x, refl, e)
+outgoing_x : (b : TransferOutFields) (r : Option Urb) → outgoing_by b r ≡ true → (x : Urb) × (r ≡ Some x) × (outgoing_allowed b.urb.noack x ≡ true)
+outgoing_x b None e = refused e
+outgoing_x b (Some x) e = (x, refl, e)
 
-pub in_back : (id : MessageId) (i : ℕ) (b : TransferInFields) (s : List ℕ) → Bytes s → (n : ℕ) → pieces.total_from (length s) 0 (pieces_of id (fields.TransferInRequest i b)) ≡ total.Fits n → transfer_in_given s i b ≡ true → Wide32 id (fields.TransferInRequest i b) → Back id (fields.TransferInRequest i b) s i 1 0x105
+pub in_back : (id : MessageId) (i : ℕ) (b : TransferInFields) (s : List ℕ) → Bytes s → (n : ℕ) → pieces.total_from (length s) 0 (pieces_of id (fields.TransferInRequest i b)) ≡ Some n → transfer_in_given s i b ≡ true → Wide32 id (fields.TransferInRequest i b) → Back id (fields.TransferInRequest i b) s i 1 0x105
 unfolding asked_of reading_of pieces_of fields_in transfer_in numbers_of parts_of transfer_in_given transfer_in_request_of transfer_of transfer_with output_of transfer_in_request_allowed
 in_back id i b s bytes n t given wide =
     let w = bytes_of id (fields.TransferInRequest i b) s in
     let p = places s (pieces_of id (fields.TransferInRequest i b)) n bytes t in
-    let g0 = split (interface_allowed i) (request_allowed b.urb.request && incoming_by b (stated_of s b.urb.function b.urb.structure)) given in
-    let g1 = split (request_allowed b.urb.request) (incoming_by b (stated_of s b.urb.function b.urb.structure)) g0.1 in
+    let g0 = and_parts (interface_allowed i) (request_allowed b.urb.request && incoming_by b (stated_of s b.urb.function b.urb.structure)) given in
+    let g1 = and_parts (request_allowed b.urb.request) (incoming_by b (stated_of s b.urb.function b.urb.structure)) g0.1 in
     let x = incoming_x b (stated_of s b.urb.function b.urb.structure) g1.1 in
     let b30 = below_30 i g0.0 in
     let h = (p.0 (first_below i b30)).0 in
@@ -296,15 +289,15 @@ in_back id i b s bytes n t given wide =
     let q = kept w s b.urb b.size empty_part x.0 (encode_is_bytes s bytes _) bytes (fits-length s _ n t) x.1 (ltb-true b.urb.request.0 0x8000_0000 g1.0) (wide.1 1) (λ j. wide.1 (suc (suc (suc (suc (suc j)))))) p.1.1.1 in
     let c = structure_size b.urb.structure in
     let z : word_at w (16 + word_at w 12) ≡ b.size = ap (λ y. word_at w (16 + y)) q.cb ∙ q.last in
-    let a1 = split (not b.urb.noack) (urb_allowed x.0 && cond (only_in x.0) (eqb b.size 0) true) x.2 in
-    let a2 = split (urb_allowed x.0) (cond (only_in x.0) (eqb b.size 0) true) a1.1 in
+    let a1 = and_parts (not b.urb.noack) (urb_allowed x.0 && cond (only_in x.0) (eqb b.size 0) true) x.2 in
+    let a2 = and_parts (urb_allowed x.0) (cond (only_in x.0) (eqb b.size 0) true) a1.1 in
     let allowed : transfer_in_request_allowed (record { urb = record { size = structure_size b.urb.structure; function = b.urb.function; request = b.urb.request; noack = b.urb.noack; urb = q.found }; size = word_at w (16 + word_at w 12) }) ≡ true = both {a = not b.urb.noack} a1.0 (both {a = urb_allowed q.found} (q.allowed ∙ a2.0) (rw (q.only, z) a2.1)) in
     record {
       back = record {
         asks = ap (λ r. asks_some (asks_by (transfer_in_request_reading (incoming_from w r))))
-            (field_there transfer.Fails w 12 4 _ (reach_16 w c 0 q.cb q.long (eight b.urb.structure)) ∙ (at_least_there transfer.Fails 8 (word_at w 12) 12 _ (rw q.cb (eight b.urb.structure)) ∙
-            (field_there transfer.Fails w 16 (word_at w 12) _ (urb_there w c 0 q.cb q.long (eight b.urb.structure)) ∙ (ap (transfer_from w (16 + word_at w 12)) q.reads ∙ field_there transfer.Fails w (16 + word_at w 12) 4 _ (size_there w c 0 q.cb q.long (eight b.urb.structure)))))) ∙
-            (ap (λ r. asks_some (asks_by (transfer_in_request_reading r))) (filled_there transfer_in_request.Fails (16 + c) (16 + word_at w 12) _ (filled_up w c 0 q.cb q.long (eight b.urb.structure)) ∙ ended_there transfer_in_request.Fails w (16 + word_at w 12 + 4) _ (ends w c 0 q.cb q.long (eight b.urb.structure) refl)) ∙
+            (field_there w 12 4 _ (reach_16 w c 0 q.cb q.long (eight b.urb.structure)) ∙ (at_least_there 8 (word_at w 12) 12 _ (rw q.cb (eight b.urb.structure)) ∙
+            (field_there w 16 (word_at w 12) _ (urb_there w c 0 q.cb q.long (eight b.urb.structure)) ∙ (ap (transfer_from w (16 + word_at w 12)) q.reads ∙ field_there w (16 + word_at w 12) 4 _ (size_there w c 0 q.cb q.long (eight b.urb.structure)))))) ∙
+            (ap (λ r. asks_some (asks_by (transfer_in_request_reading r))) (filled_there (16 + c) (16 + word_at w 12) _ (filled_up w c 0 q.cb q.long (eight b.urb.structure)) ∙ ended_there w (16 + word_at w 12 + 4) _ (ends w c 0 q.cb q.long (eight b.urb.structure) refl)) ∙
             some (transfer_in_request_allowed (record { urb = record { size = structure_size b.urb.structure; function = b.urb.function; request = b.urb.request; noack = b.urb.noack; urb = q.found }; size = word_at w (16 + word_at w 12) })) _ allowed refl);
         message = message_back _ id m;
         numbers = same (interface_back (word_at w 0) i h b30) (same z (rw q.reads (urb_same b.urb.function b.urb.request.0 b.urb.noack _ _ q.numbers)));
@@ -314,15 +307,15 @@ in_back id i b s bytes n t given wide =
       long = long_of (length w) _ q.long (omega arith);
     }
 
-pub out_back : (id : MessageId) (i : ℕ) (b : TransferOutFields) (s : List ℕ) → Bytes s → (n : ℕ) → pieces.total_from (length s) 0 (pieces_of id (fields.TransferOutRequest i b)) ≡ total.Fits n → transfer_out_given s i b ≡ true → Wide32 id (fields.TransferOutRequest i b) → Back id (fields.TransferOutRequest i b) s i 1 0x106 × (r : Request) × (asked_of kind.TransferOutRequest (bytes_of id (fields.TransferOutRequest i b) s) ≡ asks.TransferOut r) × (r.noack ≡ b.urb.noack)
+pub out_back : (id : MessageId) (i : ℕ) (b : TransferOutFields) (s : List ℕ) → Bytes s → (n : ℕ) → pieces.total_from (length s) 0 (pieces_of id (fields.TransferOutRequest i b)) ≡ Some n → transfer_out_given s i b ≡ true → Wide32 id (fields.TransferOutRequest i b) → Back id (fields.TransferOutRequest i b) s i 1 0x106 × (r : Request) × (asked_of kind.TransferOutRequest (bytes_of id (fields.TransferOutRequest i b) s) ≡ Ok (asks.TransferOut r)) × (r.noack ≡ b.urb.noack)
 unfolding asked_of reading_of pieces_of fields_in transfer_out numbers_of parts_of transfer_out_given transfer_out_request_of transfer_of transfer_with output_of outgoing_of transfer_out_request_allowed
 out_back id i b s bytes n t given wide =
     let w = bytes_of id (fields.TransferOutRequest i b) s in
     let p = places s (pieces_of id (fields.TransferOutRequest i b)) n bytes t in
     let st = stated_of s b.urb.function b.urb.structure in
-    let g0 = split (interface_allowed i) (request_allowed b.urb.request && (part_allowed s b.output && outgoing_by b st)) given in
-    let g1 = split (request_allowed b.urb.request) (part_allowed s b.output && outgoing_by b st) g0.1 in
-    let g2 = split (part_allowed s b.output) (outgoing_by b st) g1.1 in
+    let g0 = and_parts (interface_allowed i) (request_allowed b.urb.request && (part_allowed s b.output && outgoing_by b st)) given in
+    let g1 = and_parts (request_allowed b.urb.request) (part_allowed s b.output && outgoing_by b st) g0.1 in
+    let g2 = and_parts (part_allowed s b.output) (outgoing_by b st) g1.1 in
     let x = outgoing_x b st g2.1 in
     let b30 = below_30 i g0.0 in
     let h = (p.0 (first_below i b30)).0 in
@@ -332,14 +325,14 @@ out_back id i b s bytes n t given wide =
     let q = kept w s b.urb d b.output x.0 (encode_is_bytes s bytes _) bytes (fits-length s _ n t) x.1 (ltb-true b.urb.request.0 0x8000_0000 g1.0) (part_small s b.output g2.0) (λ j. wide.1 (suc (suc (suc (suc j))))) p.1.1.1 in
     let c = structure_size b.urb.structure in
     let z : word_at w (16 + word_at w 12) ≡ d = ap (λ y. word_at w (16 + y)) q.cb ∙ q.last in
-    let a1 = split (urb_allowed x.0) (not (only_in x.0) && cond b.urb.noack (may_no_ack x.0) true) x.2 in
-    let a2 = split (not (only_in x.0)) (cond b.urb.noack (may_no_ack x.0) true) a1.1 in
+    let a1 = and_parts (urb_allowed x.0) (not (only_in x.0) && cond b.urb.noack (may_no_ack x.0) true) x.2 in
+    let a2 = and_parts (not (only_in x.0)) (cond b.urb.noack (may_no_ack x.0) true) a1.1 in
     let allowed : transfer_out_request_allowed (record { urb = record { size = structure_size b.urb.structure; function = b.urb.function; request = b.urb.request; noack = b.urb.noack; urb = q.found }; size = word_at w (16 + word_at w 12); output = record { start = 16 + word_at w 12 + 4; size = word_at w (16 + word_at w 12) } }) ≡ true = both {a = urb_allowed q.found} (q.allowed ∙ a1.0) (both {a = not (only_in q.found)} (ap not q.only ∙ a2.0) (rw q.mayno a2.1)) in
-    let asked : asked_of kind.TransferOutRequest w ≡ asks.TransferOut (record { request = b.urb.request; size = word_at w (16 + word_at w 12); noack = b.urb.noack; payload = record { start = 16 + word_at w 12 + 4; size = word_at w (16 + word_at w 12) } }) = ap (λ r. asks_by (transfer_out_request_reading (outgoing_from w r)))
-    (field_there transfer.Fails w 12 4 _ (reach_16 w c d q.cb q.long (eight b.urb.structure)) ∙ (at_least_there transfer.Fails 8 (word_at w 12) 12 _ (rw q.cb (eight b.urb.structure)) ∙
-    (field_there transfer.Fails w 16 (word_at w 12) _ (urb_there w c d q.cb q.long (eight b.urb.structure)) ∙ (ap (transfer_from w (16 + word_at w 12)) q.reads ∙ field_there transfer.Fails w (16 + word_at w 12) 4 _ (size_there w c d q.cb q.long (eight b.urb.structure)))))) ∙
-    (ap (λ r. asks_by (transfer_out_request_reading r)) (field_there transfer_out_request.Fails w (16 + word_at w 12 + 4) (word_at w (16 + word_at w 12)) _ (data_there w c d q.cb q.long (eight b.urb.structure) _ z) ∙
-    (filled_there transfer_out_request.Fails (16 + c) (16 + word_at w 12) _ (filled_up w c d q.cb q.long (eight b.urb.structure)) ∙ ended_there transfer_out_request.Fails w (16 + word_at w 12 + 4 + word_at w (16 + word_at w 12)) _ (data_ends w c d q.cb q.long (eight b.urb.structure) _ z))) ∙
+    let asked : asked_of kind.TransferOutRequest w ≡ Ok (asks.TransferOut (record { request = b.urb.request; size = word_at w (16 + word_at w 12); noack = b.urb.noack; payload = record { start = 16 + word_at w 12 + 4; size = word_at w (16 + word_at w 12) } })) = ap (λ r. asks_by (transfer_out_request_reading (outgoing_from w r)))
+    (field_there w 12 4 _ (reach_16 w c d q.cb q.long (eight b.urb.structure)) ∙ (at_least_there 8 (word_at w 12) 12 _ (rw q.cb (eight b.urb.structure)) ∙
+    (field_there w 16 (word_at w 12) _ (urb_there w c d q.cb q.long (eight b.urb.structure)) ∙ (ap (transfer_from w (16 + word_at w 12)) q.reads ∙ field_there w (16 + word_at w 12) 4 _ (size_there w c d q.cb q.long (eight b.urb.structure)))))) ∙
+    (ap (λ r. asks_by (transfer_out_request_reading r)) (field_there w (16 + word_at w 12 + 4) (word_at w (16 + word_at w 12)) _ (data_there w c d q.cb q.long (eight b.urb.structure) _ z) ∙
+    (filled_there (16 + c) (16 + word_at w 12) _ (filled_up w c d q.cb q.long (eight b.urb.structure)) ∙ ended_there w (16 + word_at w 12 + 4 + word_at w (16 + word_at w 12)) _ (data_ends w c d q.cb q.long (eight b.urb.structure) _ z))) ∙
     rw allowed) in (
       record {
         back = record {

@@ -1,4 +1,5 @@
 -- What is cut out of a message by a layout and written again is the message with its padding 0.
+use Rattle.std.specs.Prelude.{Some}
 use Prim.Native.Nat.{ℕ, zero, suc, ◌+◌, ◌-◌, ◌*◌, ◌/◌, ◌%◌, ◌<◌, ◌≤◌}
 use native.Mathlib.Omega.{arith}
 use mathlib.Core.Path.{◌≡◌, refl, ap, sym, subst, ◌∙◌}
@@ -12,7 +13,6 @@ use Rattle.words.specs.Words.{byte_at, half_at, word_at}
 use Rattle.words.specs.Written.{word_bytes}
 use Rattle.pieces.specs.Pieces.{bytes_of, encode, rows_from, lies_in, piece_lies, row_bytes, row_of, size_of, total_from}
 use Rattle.pieces.specs.declared.piece.Row.{Row}
-use Rattle.pieces.specs.declared.piece.Total.TheVariants as total
 use Rattle.writer_laws.specs.Layout.{Bytes, Field, Kept, none, empty, word, half, byte, run, interfaces, bytes_from, cleared_at, cleared_from, cleared_row, cleared_rows, cut_at, cuts_from, span_of, spans_of}
 
 -- from one byte to the next
@@ -127,9 +127,9 @@ field_lies m at byte h = (refl, refl)
 field_lies m at (run n) h = (lies_at (length m) at n h, refl)
 field_lies m at (interfaces n) h = (lies_at (length m) at (12 * n) h, omega arith)
 
-pub all_fit : (m : List ℕ) (at : ℕ) (fs : List Field) → length m ≤ 65535 → at + spans_of fs ≡ length m → total_from (length m) at (cuts_from m at fs) ≡ total.Fits (length m)
+pub all_fit : (m : List ℕ) (at : ℕ) (fs : List Field) → length m ≤ 65535 → at + spans_of fs ≡ length m → total_from (length m) at (cuts_from m at fs) ≡ Some (length m)
 unfolding spans_of cuts_from total_from
-all_fit m at [] l h = ap total.Fits (omega arith)
+all_fit m at [] l h = ap Some (omega arith)
 all_fit m at (f ∷ fs) l h =
     let q = field_lies m at f (omega arith) in
     rw (q.0, q.1, le-ltb (65535 - at) (span_of f) (omega arith)) (all_fit m (at + span_of f) fs l (omega arith))

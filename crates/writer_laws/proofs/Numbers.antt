@@ -1,4 +1,6 @@
 -- An interface that was written from plain numbers says them.
+use Rattle.std.proofs.lemmas.Bool.{and_parts}
+use Rattle.std.specs.Prelude.{Ok, max}
 use Prim.Native.Nat.{ℕ, zero, suc, ◌+◌, ◌-◌, ◌*◌, ◌/◌, ◌%◌, ◌<◌, ◌≤◌}
 use native.Mathlib.Omega.{arith}
 use mathlib.Core.Path.{◌≡◌, refl, ap, sym, subst, ◌∙◌}
@@ -11,15 +13,13 @@ use borrow.Author.Tests.{eq-eqb, eqb-true, le-ltb, leb-true}
 use Rattle.words.specs.Words.{byte_at, half_at}
 use Rattle.words.specs.Layout.{left}
 use Rattle.words.specs.Written.{word_bytes}
-use Rattle.urb.specs.Interfaces.{interfaces_of, larger}
-use Rattle.urb.specs.declared.interfaces.Walk.TheVariants.{End}
+use Rattle.urb.specs.Interfaces.{interfaces_of}
 use Rattle.urb.proofs.Walk.{pipes_closed}
 use Rattle.pieces.specs.Interface.{interface_bytes, narrow_from, numbers_allowed, numbers_bytes}
 use Rattle.pieces.proofs.Numbers.{interface_length}
 use Rattle.writer_laws.specs.Places.{WordStands}
 use Rattle.writer_laws.specs.Numbers.{InterfaceSays}
 use Rattle.writer_laws.proofs.Places.{word_behind}
-use Rattle.writer_laws.proofs.RebuiltDevice.{split}
 
 -- numbers written as words stand one behind the other
 words_stand : (ns pre rest w : List ℕ) (at : ℕ) → w ≡ pre ++ (numbers_bytes ns ++ rest) → at ≡ length pre → (k place : ℕ) → k < length ns → place ≡ at + 4 * k → get_or ns k 0 < 4294967296 → WordStands w place (get_or ns k 0)
@@ -32,8 +32,8 @@ words_stand (n ∷ ns) pre rest w at e l (suc k) place h p b =
 narrow_at : (ns : List ℕ) (at k j place : ℕ) → narrow_from ns at k ≡ true → j < k → place ≡ at + 3 * j → get_or ns place 0 ≤ 65535
 unfolding narrow_from
 narrow_at ns at zero j place e h p = absurd (omega arith)
-narrow_at ns at (suc k) zero place e h p = let z : place ≡ at = omega arith in rw z (leb-true (get_or ns at 0) 65535 (split (leb (get_or ns at 0) 65535) (narrow_from ns (at + 3) k) e).0)
-narrow_at ns at (suc k) (suc j) place e h p = narrow_at ns (at + 3) k j place (split (leb (get_or ns at 0) 65535) (narrow_from ns (at + 3) k) e).1 (omega arith) (omega arith)
+narrow_at ns at (suc k) zero place e h p = let z : place ≡ at = omega arith in rw z (leb-true (get_or ns at 0) 65535 (and_parts (leb (get_or ns at 0) 65535) (narrow_from ns (at + 3) k) e).0)
+narrow_at ns at (suc k) (suc j) place e h p = narrow_at ns (at + 3) k j place (and_parts (leb (get_or ns at 0) 65535) (narrow_from ns (at + 3) k) e).1 (omega arith) (omega arith)
 
 -- numbers below 65,536, two of them in one word
 low : (a b : ℕ) → a < 65536 → (a + 65536 * b) % 65536 ≡ a
@@ -55,12 +55,12 @@ says ns pre rest w at allowed wide e l =
     let b3 = leb (get_or ns 0 0) 65535 in
     let b2 = eqb (n % 3) 0 in
     let b1 = leb n 93 in
-    let g0 = split (leb 3 n) (b1 && (b2 && (b3 && (b4 && (b5 && b6))))) allowed in
-    let g1 = split b1 (b2 && (b3 && (b4 && (b5 && b6)))) g0.1 in
-    let g2 = split b2 (b3 && (b4 && (b5 && b6))) g1.1 in
-    let g3 = split b3 (b4 && (b5 && b6)) g2.1 in
-    let g4 = split b4 (b5 && b6) g3.1 in
-    let g5 = split b5 b6 g4.1 in
+    let g0 = and_parts (leb 3 n) (b1 && (b2 && (b3 && (b4 && (b5 && b6))))) allowed in
+    let g1 = and_parts b1 (b2 && (b3 && (b4 && (b5 && b6)))) g0.1 in
+    let g2 = and_parts b2 (b3 && (b4 && (b5 && b6))) g1.1 in
+    let g3 = and_parts b3 (b4 && (b5 && b6)) g2.1 in
+    let g4 = and_parts b4 (b5 && b6) g3.1 in
+    let g5 = and_parts b5 b6 g4.1 in
     let n3 = leb-true 3 n g0.0 in let n93 = leb-true n 93 g1.0 in let t3 = eqb-true (n % 3) 0 g2.0 in
     let a0 = leb-true (get_or ns 0 0) 65535 g3.0 in let a1 = leb-true (get_or ns 1 0) 255 g4.0 in let a2 = leb-true (get_or ns 2 0) 255 g5.0 in
     let first = 4 * n + 65536 * get_or ns 0 0 in
@@ -93,9 +93,9 @@ says ns pre rest w at allowed wide e l =
             le-ltb (left w at) 12 (room at n (length w) n3 h),
             s2.0,
             eq-eqb (half_at w at) (12 + 12 * (n / 3 - 1)) (s0.1 ∙ (low (4 * n) (get_or ns 0 0) (below n n93) ∙ rows n n3 t3)),
-            pipes_closed w (interfaces_of w 0 (larger most (n / 3 - 1))) (n / 3 - 1) (at + 12),
+            pipes_closed w (interfaces_of w 0 (max most (n / 3 - 1))) (n / 3 - 1) (at + 12),
             le-ltb (left w (at + 12) / 12) (n / 3 - 1) (more at n (length w) n3 t3 h),
-          ) (ap (λ k. End k (larger most (n / 3 - 1))) (ends at n n3 t3));
+          ) (ap (λ k. Ok (k, (max most (n / 3 - 1)))) (ends at n n3 t3));
     }
   where
     below : (n : ℕ) → n ≤ 93 → 4 * n < 65536

@@ -1,4 +1,5 @@
 -- The pieces of a message stand where its layout has them.
+use Rattle.std.specs.Prelude.{Some}
 use Prim.Native.Nat.{ℕ, zero, suc, ◌+◌, ◌*◌, ◌/◌, ◌%◌, ◌<◌, ◌≤◌}
 use native.Mathlib.Omega.{arith}
 use native.Mathlib.Nat.{div-div-eq-div-mul}
@@ -15,7 +16,6 @@ use Rattle.pieces.specs.Pieces.{bytes_of, cut, encode, rows_from, row_bytes, row
 use Rattle.pieces.specs.declared.piece.Piece.{Piece}
 use Rattle.pieces.specs.declared.piece.Piece.TheVariants.{Nothing, Word, Run, Interfaces}
 use Rattle.pieces.specs.declared.piece.Row.{Row}
-use Rattle.pieces.specs.declared.piece.Total.TheVariants as total
 use Rattle.pieces.proofs.Pieces.{encode-length, piece_length, total_first}
 use Rattle.writer_laws.specs.Layout.{Bytes}
 use Rattle.writer_laws.specs.Places.{Places, RowsStand, Stands, WordStands}
@@ -138,7 +138,7 @@ stands pre s rest w at (Run p) b e l h = cut_behind pre (cut s p) rest w at p.si
 stands pre s rest w at (Interfaces p) b e l h = (rows_same s b (p.size / 12) pre rest w at p.start 0 e l, rows_stand s b (p.size / 12) pre rest w at p.start 0 e l)
 
 -- the pieces of a message, whose parts lie in the lent bytes, stand in it one behind the other
-places_behind : (pre s w : List ℕ) (at sum m : ℕ) (ps : List Piece) → Bytes s → w ≡ pre ++ encode s ps → at ≡ length pre → total_from (length s) sum ps ≡ total.Fits m → Places w s at ps
+places_behind : (pre s w : List ℕ) (at sum m : ℕ) (ps : List Piece) → Bytes s → w ≡ pre ++ encode s ps → at ≡ length pre → total_from (length s) sum ps ≡ Some m → Places w s at ps
 unfolding encode
 places_behind pre s w at sum m [] b e l t = rw (e, append-nil) (sym l)
 places_behind pre s w at sum m (p ∷ ps) b e l t =
@@ -148,16 +148,16 @@ places_behind pre s w at sum m (p ∷ ps) b e l t =
       places_behind (pre ++ bytes_of s p) s w (at + size_of p) (sum + size_of p) m ps b (e ∙ sym (append_assoc pre (bytes_of s p) (encode s ps))) (rw (length-append, n, l)) q.2,
     )
 
-pub places : (s : List ℕ) (ps : List Piece) (m : ℕ) → Bytes s → total_from (length s) 0 ps ≡ total.Fits m → Places (encode s ps) s 0 ps
+pub places : (s : List ℕ) (ps : List Piece) (m : ℕ) → Bytes s → total_from (length s) 0 ps ≡ Some m → Places (encode s ps) s 0 ps
 places s ps m b t = places_behind [] s (encode s ps) 0 0 m ps b refl refl t
 
 -- pieces that fit make up at most 65,535 bytes
-total_below : (n sum m : ℕ) (ps : List Piece) → sum ≤ 65535 → total_from n sum ps ≡ total.Fits m → m ≤ 65535
+total_below : (n sum m : ℕ) (ps : List Piece) → sum ≤ 65535 → total_from n sum ps ≡ Some m → m ≤ 65535
 unfolding total_from
 total_below n sum m [] h t = let e : sum ≡ m = cc in omega arith
 total_below n sum m (p ∷ ps) h t = let q = total_first n sum p ps m t in total_below n (sum + size_of p) m ps (omega (arith, q.1)) q.2
 
-pub fits-length : (s : List ℕ) (ps : List Piece) (m : ℕ) → total_from (length s) 0 ps ≡ total.Fits m → length (encode s ps) ≤ 65535
+pub fits-length : (s : List ℕ) (ps : List Piece) (m : ℕ) → total_from (length s) 0 ps ≡ Some m → length (encode s ps) ≤ 65535
 fits-length s ps m t = omega (arith, encode-length s ps 0 m t, total_below (length s) 0 m ps (omega arith) t)
 
 -- what is written is bytes

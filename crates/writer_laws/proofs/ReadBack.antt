@@ -1,4 +1,6 @@
 -- 02 R-1: what the writer writes is read back as the same fields, and on a table that allows it passes checks 3 to 8.
+use Rattle.std.proofs.lemmas.Bool.{and_parts}
+use Rattle.std.specs.Prelude.{Option, Some, None, Result, Ok, Err}
 use Prim.Native.Nat.{ℕ, ◌+◌, ◌*◌, ◌/◌, ◌%◌, ◌<◌, ◌≤◌}
 use native.Mathlib.Omega.{arith}
 use mathlib.Core.Path.{◌≡◌, refl, ap, sym, subst, ◌∙◌}
@@ -10,12 +12,10 @@ use borrow.Author.Tests.{eq-eqb, leb-true, ne_eqb}
 use Rattle.words.specs.Words.{word_at}
 use Rattle.header.specs.Ids.{message_in}
 use Rattle.header.specs.declared.ids.MessageId.{MessageId}
-use Rattle.header.specs.declared.ids.Known.{Known}
-use Rattle.header.specs.declared.ids.Known.TheVariants as known
 use Rattle.header.specs.declared.shared_msg_header.Header.{Header}
 use Rattle.answers.specs.declared.kind.Kind.TheVariants as kind
 use Rattle.wire.specs.Message.{asked_of, asks_by}
-use Rattle.wire.specs.Reading.{Fails, Fits, Reading, reading_of}
+use Rattle.wire.specs.Reading.{Reading, reading_of}
 use Rattle.wire.specs.RetractDevice.{retract_device_allowed, retract_device_of}
 use Rattle.wire.specs.AddDevice.{add_device_of}
 use Rattle.wire.specs.AddVirtualChannel.{add_virtual_channel_of}
@@ -30,16 +30,11 @@ use Rattle.wire.specs.TransferInRequest.{transfer_in_request_of}
 use Rattle.wire.specs.UrbCompletion.{urb_completion_of}
 use Rattle.wire.specs.UrbCompletionNoData.{urb_completion_no_data_of}
 use Rattle.kinds.specs.Kinds.{calls_known, client, first_fitting, kinds, server}
-use Rattle.kinds.specs.declared.kind.KindFound.TheVariants as found
 use Rattle.channel.specs.declared.channel.Channel.{Channel}
 use Rattle.table.specs.Table.{channel_of, judge_of}
 use Rattle.table.specs.declared.table.Table.{Table}
 use Rattle.places.specs.Place.{no_place, used_up}
 use Rattle.pieces.specs.Pieces as pieces
-use Rattle.pieces.specs.declared.piece.Total.{Total}
-use Rattle.pieces.specs.declared.piece.Total.TheVariants as total
-use Rattle.pieces.specs.declared.piece.Written.{Written}
-use Rattle.pieces.specs.declared.piece.Written.TheVariants.{Room, Value, Whole}
 use Rattle.pieces.proofs.Pieces.{encode-length}
 use Rattle.writer.specs.SharedMsgHeader.{interface_allowed}
 use Rattle.writer.specs.Part.{part_allowed}
@@ -48,8 +43,6 @@ use Rattle.writer.specs.TsUrb.{stated_of}
 use Rattle.writer.specs.Transfer.{incoming_by, outgoing_by, request_allowed, transfer_in_given, transfer_out_given}
 use Rattle.writer.specs.UrbCompletion.{result_given}
 use Rattle.writer.specs.Message.{bytes_of, given_in, pieces_of, written_of}
-use Rattle.writer.specs.declared.register_request_callback.RequestCompletion.{RequestCompletion}
-use Rattle.writer.specs.declared.register_request_callback.RequestCompletion.TheVariants as completes
 use Rattle.writer.specs.declared.message.Fields.{Fields}
 use Rattle.writer.specs.declared.message.Fields.TheVariants as fields
 use Rattle.writer_laws.specs.Layout.{Bytes}
@@ -58,13 +51,15 @@ use Rattle.writer_laws.specs.Passed.{HasKind, Passes, head_in}
 use Rattle.writer_laws.specs.ReadBack.{Allows, Goes, ReadBack, Wide32, kind_of, side_of}
 use Rattle.writer_laws.proofs.Places.{fits-length}
 use Rattle.writer_laws.proofs.Rebuilt.{Headed, refused}
-use Rattle.writer_laws.proofs.RebuiltDevice.{split}
 use Rattle.writer_laws.proofs.Found.{Same}
 use Rattle.writer_laws.proofs.Found as fields_found
 use Rattle.writer_laws.proofs.Back as back
 use Rattle.writer_laws.proofs.BackDevice.{device_back}
 use Rattle.writer_laws.proofs.BackTransfer.{in_back, out_back}
 use Rattle.writer_laws.proofs.Taken as passes
+use Rattle.header.specs.declared.ids.InterfaceId.{InterfaceId}
+use Rattle.pieces.specs.declared.piece.Unwritten.{Unwritten}
+use Rattle.pieces.specs.declared.piece.Unwritten.TheVariants as unwritten
 
 -- a header with an interface, a mask and a function
 abbrev headed : ℕ → ℕ → MessageId → ℕ → Header
@@ -85,9 +80,9 @@ head_read w i mask function h e =
     high w i m e h = omega arith
 
 -- a message of the other side goes to no known interface
-wrong_side : (h : Header) (side : ℕ) (k : Known) (by mask function : ℕ) → eqb side by ≡ false → calls_known h side k by mask function ≡ false
-wrong_side h side known.Nothing by mask function e = refl
-wrong_side h side (known.Is id) by mask function e = rw e (none (eqb h.interface.0 id.0))
+wrong_side : (h : Header) (side : ℕ) (k : Option InterfaceId) (by mask function : ℕ) → eqb side by ≡ false → calls_known h side k by mask function ≡ false
+wrong_side h side None by mask function e = refl
+wrong_side h side (Some id) by mask function e = rw e (none (eqb h.interface.0 id.0))
   where
     none : (a : Bool) → ((a && false) && eqb h.function function) ≡ false
     none true = refl
@@ -110,56 +105,56 @@ module _ (i : ℕ) (id : MessageId) (four : 4 ≤ i) where
   ii : eqb i i ≡ true
   ii = eq-eqb i i refl
 
-  cancel_found : (c : Known) → first_fitting kinds (headed i 1 id 0x100) server (known.Is (record { 0 = i })) c ≡ found.Is kind.CancelRequest
+  cancel_found : (c : Option InterfaceId) → first_fitting kinds (headed i 1 id 0x100) server (Some (record { 0 = i })) c ≡ Some kind.CancelRequest
   cancel_found c = rw (n0, n1, n2, n3, ii)
 
-  register_found : (c : Known) → first_fitting kinds (headed i 1 id 0x101) server (known.Is (record { 0 = i })) c ≡ found.Is kind.RegisterRequestCallback
+  register_found : (c : Option InterfaceId) → first_fitting kinds (headed i 1 id 0x101) server (Some (record { 0 = i })) c ≡ Some kind.RegisterRequestCallback
   register_found c = rw (n0, n1, n2, n3, ii)
 
-  io_found : (c : Known) → first_fitting kinds (headed i 1 id 0x102) server (known.Is (record { 0 = i })) c ≡ found.Is kind.IoControl
+  io_found : (c : Option InterfaceId) → first_fitting kinds (headed i 1 id 0x102) server (Some (record { 0 = i })) c ≡ Some kind.IoControl
   io_found c = rw (n0, n1, n2, n3, ii)
 
-  internal_found : (c : Known) → first_fitting kinds (headed i 1 id 0x103) server (known.Is (record { 0 = i })) c ≡ found.Is kind.InternalIoControl
+  internal_found : (c : Option InterfaceId) → first_fitting kinds (headed i 1 id 0x103) server (Some (record { 0 = i })) c ≡ Some kind.InternalIoControl
   internal_found c = rw (n0, n1, n2, n3, ii)
 
-  in_found : (c : Known) → first_fitting kinds (headed i 1 id 0x105) server (known.Is (record { 0 = i })) c ≡ found.Is kind.TransferInRequest
+  in_found : (c : Option InterfaceId) → first_fitting kinds (headed i 1 id 0x105) server (Some (record { 0 = i })) c ≡ Some kind.TransferInRequest
   in_found c = rw (n0, n1, n2, n3, ii)
 
-  out_found : (c : Known) → first_fitting kinds (headed i 1 id 0x106) server (known.Is (record { 0 = i })) c ≡ found.Is kind.TransferOutRequest
+  out_found : (c : Option InterfaceId) → first_fitting kinds (headed i 1 id 0x106) server (Some (record { 0 = i })) c ≡ Some kind.TransferOutRequest
   out_found c = rw (n0, n1, n2, n3, ii)
 
-  retract_found : (c : Known) → first_fitting kinds (headed i 1 id 0x107) server (known.Is (record { 0 = i })) c ≡ found.Is kind.RetractDevice
+  retract_found : (c : Option InterfaceId) → first_fitting kinds (headed i 1 id 0x107) server (Some (record { 0 = i })) c ≡ Some kind.RetractDevice
   retract_found c = rw (n0, n1, n2, n3, ii)
 
-  io_completed_found : (d : Known) → first_fitting kinds (headed i 1 id 0x100) client d (known.Is (record { 0 = i })) ≡ found.Is kind.IoControlCompletion
+  io_completed_found : (d : Option InterfaceId) → first_fitting kinds (headed i 1 id 0x100) client d (Some (record { 0 = i })) ≡ Some kind.IoControlCompletion
   io_completed_found d = rw (n0, n1, n2, n3, wrong_side (headed i 1 id 0x100) client d server 1 0x100 refl, wrong_side (headed i 1 id 0x100) client d server 1 0x101 refl, wrong_side (headed i 1 id 0x100) client d server 1 0x102 refl, wrong_side (headed i 1 id 0x100) client d server 1 0x103 refl, wrong_side (headed i 1 id 0x100) client d server 1 0x105 refl, wrong_side (headed i 1 id 0x100) client d server 1 0x106 refl, wrong_side (headed i 1 id 0x100) client d server 1 0x107 refl, ii)
 
-  completed_found : (d : Known) → first_fitting kinds (headed i 1 id 0x101) client d (known.Is (record { 0 = i })) ≡ found.Is kind.UrbCompletion
+  completed_found : (d : Option InterfaceId) → first_fitting kinds (headed i 1 id 0x101) client d (Some (record { 0 = i })) ≡ Some kind.UrbCompletion
   completed_found d = rw (n0, n1, n2, n3, wrong_side (headed i 1 id 0x101) client d server 1 0x100 refl, wrong_side (headed i 1 id 0x101) client d server 1 0x101 refl, wrong_side (headed i 1 id 0x101) client d server 1 0x102 refl, wrong_side (headed i 1 id 0x101) client d server 1 0x103 refl, wrong_side (headed i 1 id 0x101) client d server 1 0x105 refl, wrong_side (headed i 1 id 0x101) client d server 1 0x106 refl, wrong_side (headed i 1 id 0x101) client d server 1 0x107 refl, ii)
 
-  no_data_found : (d : Known) → first_fitting kinds (headed i 1 id 0x102) client d (known.Is (record { 0 = i })) ≡ found.Is kind.UrbCompletionNoData
+  no_data_found : (d : Option InterfaceId) → first_fitting kinds (headed i 1 id 0x102) client d (Some (record { 0 = i })) ≡ Some kind.UrbCompletionNoData
   no_data_found d = rw (n0, n1, n2, n3, wrong_side (headed i 1 id 0x102) client d server 1 0x100 refl, wrong_side (headed i 1 id 0x102) client d server 1 0x101 refl, wrong_side (headed i 1 id 0x102) client d server 1 0x102 refl, wrong_side (headed i 1 id 0x102) client d server 1 0x103 refl, wrong_side (headed i 1 id 0x102) client d server 1 0x105 refl, wrong_side (headed i 1 id 0x102) client d server 1 0x106 refl, wrong_side (headed i 1 id 0x102) client d server 1 0x107 refl, ii)
 
 -- what is shown of the fields of each kind
 abbrev Got : MessageId → Fields → List ℕ → Type 0
 Got id f s =
     back.FieldsBack id f s (bytes_of id f s) × (12 ≤ length (bytes_of id f s)) ×
-    ((c : Channel) → Goes c f → (first_fitting kinds (head_in (bytes_of id f s)) (side_of f) c.device c.callback ≡ found.Is (kind_of f)) × passes.NoAckAllowed c.jitter (asked_of (kind_of f) (bytes_of id f s)))
+    ((c : Channel) → Goes c f → (first_fitting kinds (head_in (bytes_of id f s)) (side_of f) c.device c.callback ≡ Some (kind_of f)) × passes.NoAckAllowed c.jitter (asked_of (kind_of f) (bytes_of id f s)))
 
 abbrev Gets : MessageId → Fields → List ℕ → Type 0
-Gets id f s = (n : ℕ) → pieces.total_from (length s) 0 (pieces_of id f) ≡ total.Fits n → given_in s f ≡ true → Wide32 id f → Got id f s
+Gets id f s = (n : ℕ) → pieces.total_from (length s) 0 (pieces_of id f) ≡ Some n → given_in s f ≡ true → Wide32 id f → Got id f s
 
 -- an interface that is allowed is none of the defaults, and has 30 bits
 at_least_4 : (i : ℕ) → interface_allowed i ≡ true → 4 ≤ i
-at_least_4 i e = leb-true 4 i (split (leb 4 i) (ltb i 0x4000_0000) e).0
+at_least_4 i e = leb-true 4 i (and_parts (leb 4 i) (ltb i 0x4000_0000) e).0
 
-got_callback : (id : MessageId) (s : List ℕ) → Bytes s → (i count : ℕ) (completion : RequestCompletion) → Gets id (fields.RegisterRequestCallback i (record { count = count; completion = completion })) s
+got_callback : (id : MessageId) (s : List ℕ) → Bytes s → (i count : ℕ) (completion : Option ℕ) → Gets id (fields.RegisterRequestCallback i (record { count = count; completion = completion })) s
 unfolding asked_of reading_of given_in
-got_callback id s bytes i count completes.Nothing n t given wide =
-    let w = bytes_of id (fields.RegisterRequestCallback i (record { count = count; completion = completes.Nothing })) s in let q = back.no_callback_back id i count s bytes n t given wide in let k = (split (interface_allowed i) (eqb count 0) given).0 in
+got_callback id s bytes i count None n t given wide =
+    let w = bytes_of id (fields.RegisterRequestCallback i (record { count = count; completion = None })) s in let q = back.no_callback_back id i count s bytes n t given wide in let k = (and_parts (interface_allowed i) (eqb count 0) given).0 in
     (q.back, q.long, λ c g. (ap (λ h. first_fitting kinds h server c.device c.callback) (head_read w i 1 0x101 (back.below_30 i k) q.head) ∙ (ap (λ d. first_fitting kinds (headed i 1 (message_in (word_at w 4)) 0x101) server d c.callback) g ∙ register_found i (message_in (word_at w 4)) (at_least_4 i k) c.callback), passes.register_request_callback_no_out c.jitter (register_request_callback_of w)))
-got_callback id s bytes i count (completes.Is word) n t given wide =
-    let w = bytes_of id (fields.RegisterRequestCallback i (record { count = count; completion = (completes.Is word) })) s in let q = back.callback_back id i count word s bytes n t given wide in let k = (split (interface_allowed i) (completion_allowed count (completes.Is word)) given).0 in
+got_callback id s bytes i count (Some word) n t given wide =
+    let w = bytes_of id (fields.RegisterRequestCallback i (record { count = count; completion = (Some word) })) s in let q = back.callback_back id i count word s bytes n t given wide in let k = (and_parts (interface_allowed i) (completion_allowed count (Some word)) given).0 in
     (q.back, q.long, λ c g. (ap (λ h. first_fitting kinds h server c.device c.callback) (head_read w i 1 0x101 (back.below_30 i k) q.head) ∙ (ap (λ d. first_fitting kinds (headed i 1 (message_in (word_at w 4)) 0x101) server d c.callback) g ∙ register_found i (message_in (word_at w 4)) (at_least_4 i k) c.callback), passes.register_request_callback_no_out c.jitter (register_request_callback_of w)))
 
 got : (id : MessageId) (s : List ℕ) → Bytes s → (f : Fields) → Gets id f s
@@ -184,47 +179,47 @@ got id s bytes (fields.AddDevice b) n t given wide =
     (q.back, q.long, λ c g. (ap (λ h. first_fitting kinds h client c.device c.callback) (head_read w 1 1 0x101 (omega arith) q.head), passes.add_device_no_out c.jitter (add_device_of w)))
 got id s bytes (fields.RegisterRequestCallback i b) n t given wide = got_callback id s bytes i b.count b.completion n t given wide
 got id s bytes (fields.IoControl i b) n t given wide =
-    let w = bytes_of id (fields.IoControl i b) s in let q = back.io_control_back id i b s bytes n t given wide in let k = (split (interface_allowed i) (part_allowed s b.input) given).0 in
+    let w = bytes_of id (fields.IoControl i b) s in let q = back.io_control_back id i b s bytes n t given wide in let k = (and_parts (interface_allowed i) (part_allowed s b.input) given).0 in
     (q.back, q.long, λ c g. (ap (λ h. first_fitting kinds h server c.device c.callback) (head_read w i 1 0x102 (back.below_30 i k) q.head) ∙ (ap (λ d. first_fitting kinds (headed i 1 (message_in (word_at w 4)) 0x102) server d c.callback) g ∙ io_found i (message_in (word_at w 4)) (at_least_4 i k) c.callback), passes.io_control_no_out c.jitter (io_control_of w)))
 got id s bytes (fields.InternalIoControl i b) n t given wide =
-    let w = bytes_of id (fields.InternalIoControl i b) s in let q = back.internal_back id i b s bytes n t given wide in let k = (split (interface_allowed i) (part_allowed s b.input) given).0 in
+    let w = bytes_of id (fields.InternalIoControl i b) s in let q = back.internal_back id i b s bytes n t given wide in let k = (and_parts (interface_allowed i) (part_allowed s b.input) given).0 in
     (q.back, q.long, λ c g. (ap (λ h. first_fitting kinds h server c.device c.callback) (head_read w i 1 0x103 (back.below_30 i k) q.head) ∙ (ap (λ d. first_fitting kinds (headed i 1 (message_in (word_at w 4)) 0x103) server d c.callback) g ∙ internal_found i (message_in (word_at w 4)) (at_least_4 i k) c.callback), passes.io_control_no_out c.jitter (io_control_of w)))
 got id s bytes (fields.TransferInRequest i b) n t given wide =
-    let w = bytes_of id (fields.TransferInRequest i b) s in let q = in_back id i b s bytes n t given wide in let k = (split (interface_allowed i) (request_allowed b.urb.request && incoming_by b (stated_of s b.urb.function b.urb.structure)) given).0 in
+    let w = bytes_of id (fields.TransferInRequest i b) s in let q = in_back id i b s bytes n t given wide in let k = (and_parts (interface_allowed i) (request_allowed b.urb.request && incoming_by b (stated_of s b.urb.function b.urb.structure)) given).0 in
     (q.back, q.long, λ c g. (ap (λ h. first_fitting kinds h server c.device c.callback) (head_read w i 1 0x105 (back.below_30 i k) q.head) ∙ (ap (λ d. first_fitting kinds (headed i 1 (message_in (word_at w 4)) 0x105) server d c.callback) g ∙ in_found i (message_in (word_at w 4)) (at_least_4 i k) c.callback), passes.transfer_in_request_no_out c.jitter (transfer_in_request_of w)))
 got id s bytes (fields.TransferOutRequest i b) n t given wide =
-    let w = bytes_of id (fields.TransferOutRequest i b) s in let o = out_back id i b s bytes n t given wide in let q = o.0 in let k = (split (interface_allowed i) (request_allowed b.urb.request && (part_allowed s b.output && outgoing_by b (stated_of s b.urb.function b.urb.structure))) given).0 in
+    let w = bytes_of id (fields.TransferOutRequest i b) s in let o = out_back id i b s bytes n t given wide in let q = o.0 in let k = (and_parts (interface_allowed i) (request_allowed b.urb.request && (part_allowed s b.output && outgoing_by b (stated_of s b.urb.function b.urb.structure))) given).0 in
     (q.back, q.long, λ c g. (ap (λ h. first_fitting kinds h server c.device c.callback) (head_read w i 1 0x106 (back.below_30 i k) q.head) ∙ (ap (λ d. first_fitting kinds (headed i 1 (message_in (word_at w 4)) 0x106) server d c.callback) g.0 ∙ out_found i (message_in (word_at w 4)) (at_least_4 i k) c.callback), subst (passes.NoAckAllowed c.jitter) (sym o.2) (λ e. g.1 (sym o.3 ∙ e))))
 got id s bytes (fields.CancelRequest i b) n t given wide =
     let w = bytes_of id (fields.CancelRequest i b) s in let q = back.cancel_back id i b s bytes n t given wide in let k = given in
     (q.back, q.long, λ c g. (ap (λ h. first_fitting kinds h server c.device c.callback) (head_read w i 1 0x100 (back.below_30 i k) q.head) ∙ (ap (λ d. first_fitting kinds (headed i 1 (message_in (word_at w 4)) 0x100) server d c.callback) g ∙ cancel_found i (message_in (word_at w 4)) (at_least_4 i k) c.callback), passes.cancel_request_no_out c.jitter (cancel_request_of w)))
 got id s bytes (fields.RetractDevice i b) n t given wide =
-    let w = bytes_of id (fields.RetractDevice i b) s in let q = back.retract_back id i b s bytes n t given wide in let k = (split (interface_allowed i) (retract_device_allowed b) given).0 in
+    let w = bytes_of id (fields.RetractDevice i b) s in let q = back.retract_back id i b s bytes n t given wide in let k = (and_parts (interface_allowed i) (retract_device_allowed b) given).0 in
     (q.back, q.long, λ c g. (ap (λ h. first_fitting kinds h server c.device c.callback) (head_read w i 1 0x107 (back.below_30 i k) q.head) ∙ (ap (λ d. first_fitting kinds (headed i 1 (message_in (word_at w 4)) 0x107) server d c.callback) g ∙ retract_found i (message_in (word_at w 4)) (at_least_4 i k) c.callback), passes.retract_device_no_out c.jitter (retract_device_of w)))
 got id s bytes (fields.IoControlCompletion i b) n t given wide =
-    let w = bytes_of id (fields.IoControlCompletion i b) s in let q = back.io_completion_back id i b s bytes n t given wide in let k = (split (interface_allowed i) (part_allowed s b.output) given).0 in
+    let w = bytes_of id (fields.IoControlCompletion i b) s in let q = back.io_completion_back id i b s bytes n t given wide in let k = (and_parts (interface_allowed i) (part_allowed s b.output) given).0 in
     (q.back, q.long, λ c g. (ap (λ h. first_fitting kinds h client c.device c.callback) (head_read w i 1 0x100 (back.below_30 i k) q.head) ∙ (ap (λ d. first_fitting kinds (headed i 1 (message_in (word_at w 4)) 0x100) client c.device d) g ∙ io_completed_found i (message_in (word_at w 4)) (at_least_4 i k) c.device), passes.io_control_completion_no_out c.jitter (io_control_completion_of w)))
 got id s bytes (fields.UrbCompletion i b) n t given wide =
-    let w = bytes_of id (fields.UrbCompletion i b) s in let q = back.urb_completion_back id i b s bytes n t given wide in let k = (split (interface_allowed i) (part_allowed s b.urb.rest) (split (result_given s i b.urb) (part_allowed s b.output && not (eqb b.output.size 0)) given).0).0 in
+    let w = bytes_of id (fields.UrbCompletion i b) s in let q = back.urb_completion_back id i b s bytes n t given wide in let k = (and_parts (interface_allowed i) (part_allowed s b.urb.rest) (and_parts (result_given s i b.urb) (part_allowed s b.output && not (eqb b.output.size 0)) given).0).0 in
     (q.back, q.long, λ c g. (ap (λ h. first_fitting kinds h client c.device c.callback) (head_read w i 1 0x101 (back.below_30 i k) q.head) ∙ (ap (λ d. first_fitting kinds (headed i 1 (message_in (word_at w 4)) 0x101) client c.device d) g ∙ completed_found i (message_in (word_at w 4)) (at_least_4 i k) c.device), passes.urb_completion_no_out c.jitter (urb_completion_of w)))
 got id s bytes (fields.UrbCompletionNoData i b) n t given wide =
-    let w = bytes_of id (fields.UrbCompletionNoData i b) s in let q = back.no_data_back id i b s bytes n t given wide in let k = (split (interface_allowed i) (part_allowed s b.urb.rest) given).0 in
+    let w = bytes_of id (fields.UrbCompletionNoData i b) s in let q = back.no_data_back id i b s bytes n t given wide in let k = (and_parts (interface_allowed i) (part_allowed s b.urb.rest) given).0 in
     (q.back, q.long, λ c g. (ap (λ h. first_fitting kinds h client c.device c.callback) (head_read w i 1 0x102 (back.below_30 i k) q.head) ∙ (ap (λ d. first_fitting kinds (headed i 1 (message_in (word_at w 4)) 0x102) client c.device d) g ∙ no_data_found i (message_in (word_at w 4)) (at_least_4 i k) c.device), passes.urb_completion_no_data_no_out c.jitter (urb_completion_no_data_of w)))
 
 -- what is written was given, and its pieces fit
-fit : (room n : ℕ) (x : Total) → pieces.written_by room x ≡ Whole n → x ≡ total.Fits n
-fit room n total.Nothing e = absurd (omega (arith, (let z : ◌≡◌ {A = ℕ} 0 1 = cc in z)))
-fit room n (total.Fits k) e = go (ltb room k) e
+fit : (room n : ℕ) (x : Option ℕ) → pieces.written_by room x ≡ Ok n → x ≡ Some n
+fit room n None e = absurd (omega (arith, (let z : ◌≡◌ {A = ℕ} 0 1 = cc in z)))
+fit room n (Some k) e = go (ltb room k) e
   where
-    go : (t : Bool) → cond t Room (Whole k) ≡ Whole n → total.Fits k ≡ total.Fits n
+    go : (t : Bool) → cond t (Err unwritten.Room) (Ok k) ≡ Ok n → Some k ≡ Some n
     go true e = absurd (omega (arith, (let z : ◌≡◌ {A = ℕ} 0 1 = cc in z)))
     go false e = let z : k ≡ n = cc in rw z
 
-whole_given : (t : Bool) (x : Written) (n : ℕ) → cond t x Value ≡ Whole n → (t ≡ true) × (x ≡ Whole n)
+whole_given : (t : Bool) (x : Result ℕ Unwritten) (n : ℕ) → cond t x (Err unwritten.Value) ≡ Ok n → (t ≡ true) × (x ≡ Ok n)
 whole_given true x n e = (refl, e)
 whole_given false x n e = absurd (omega (arith, (let z : ◌≡◌ {A = ℕ} 0 1 = cc in z)))
 
-all_of : (id : MessageId) (f : Fields) (s : List ℕ) → Bytes s → Wide32 id f → (room n : ℕ) → written_of id f s room ≡ Whole n → (pieces.total_from (length s) 0 (pieces_of id f) ≡ total.Fits n) × Got id f s
+all_of : (id : MessageId) (f : Fields) (s : List ℕ) → Bytes s → Wide32 id f → (room n : ℕ) → written_of id f s room ≡ Ok n → (pieces.total_from (length s) 0 (pieces_of id f) ≡ Some n) × Got id f s
 unfolding written_of pieces.written_of
 all_of id f s bytes wide room n e =
     let g = whole_given (given_in s f) (pieces.written_of s room (pieces_of id f)) n e in
@@ -233,11 +228,11 @@ all_of id f s bytes wide room n e =
 
 -- what was found at the places of the fields, found by the reader
 by_reader : (id : MessageId) (f : Fields) (s w : List ℕ) (r : Reading) → reading_of (kind_of f) w ≡ r → Same (kind_of f) w r → asks_some (asks_by r) ≡ true → back.FieldsBack id f s w → ReadBack id f s w
-by_reader id f s w (Fits b) e q a k = record { body = b; reads = e; asks = a; message = k.message; numbers = q.0 ∙ k.numbers; parts = q.1 ∙ k.parts }
-by_reader id f s w (Fails fault) e q a k = refused a
+by_reader id f s w (Ok b) e q a k = record { body = b; reads = e; asks = a; message = k.message; numbers = q.0 ∙ k.numbers; parts = q.1 ∙ k.parts }
+by_reader id f s w (Err fault) e q a k = refused a
 
 -- What is written is as long as the answer says, and the reader finds in it the fields that were given.
-pub read_back : (id : MessageId) (f : Fields) (s : List ℕ) → Bytes s → Wide32 id f → (room n : ℕ) → written_of id f s room ≡ Whole n → (length (bytes_of id f s) ≡ n) × ReadBack id f s (bytes_of id f s)
+pub read_back : (id : MessageId) (f : Fields) (s : List ℕ) → Bytes s → Wide32 id f → (room n : ℕ) → written_of id f s room ≡ Ok n → (length (bytes_of id f s) ≡ n) × ReadBack id f s (bytes_of id f s)
 unfolding asked_of
 read_back id f s bytes wide room n e =
     let q = all_of id f s bytes wide room n e in
@@ -248,7 +243,7 @@ read_back id f s bytes wide room n e =
     exact a b e = omega arith
 
 -- On a table that allows it, what is written has the kind of its fields and passes checks 3 to 8.
-pub allowed_passes : (id : MessageId) (f : Fields) (s : List ℕ) → Bytes s → Wide32 id f → (room n : ℕ) → written_of id f s room ≡ Whole n
+pub allowed_passes : (id : MessageId) (f : Fields) (s : List ℕ) → Bytes s → Wide32 id f → (room n : ℕ) → written_of id f s room ≡ Ok n
     → (t : Table) (channel stamp : ℕ) → used_up t.next ≡ false → no_place channel (side_of f) ≡ false → Allows (channel_of t channel) f → HasKind (channel_of t channel) (side_of f) (bytes_of id f s) (kind_of f) × Passes (judge_of t channel (side_of f) stamp (bytes_of id f s)).answer
 unfolding judge_of
 allowed_passes id f s bytes wide room n e t channel stamp u p a =

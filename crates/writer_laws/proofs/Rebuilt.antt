@@ -1,4 +1,5 @@
 -- A message that asks something is rebuilt from its fields, kind by kind: the layout is that of its reader.
+use Rattle.std.specs.Prelude.{Some, Result, Ok, Err}
 use Prim.Native.Nat.{ℕ, ◌+◌, ◌-◌, ◌*◌, ◌≤◌}
 use native.Mathlib.Omega.{arith}
 use mathlib.Core.Path.{◌≡◌, refl, ap, sym, subst, ◌∙◌}
@@ -11,7 +12,6 @@ use Rattle.words.specs.Words.{half_at, word_at}
 use Rattle.words.specs.declared.layout.Part.{Part}
 use Rattle.words.proofs.Steps.{either, field_by, agrees_by, at_least_by, ended_by}
 use Rattle.header.specs.Ids.{assignable, interface_in, message_in}
-use Rattle.header.specs.declared.ids.Known.TheVariants as known
 use Rattle.answers.specs.declared.kind.Kind.{Kind}
 use Rattle.answers.specs.declared.kind.Kind.TheVariants as kind
 use Rattle.wire.specs.CapabilityRequest.{capability_request_of}
@@ -28,20 +28,7 @@ use Rattle.wire.specs.UrbCompletion.{with_output_of, with_output_from, urb_compl
 use Rattle.wire.specs.UrbCompletionNoData.{no_data_from, urb_completion_no_data_of}
 use Rattle.wire.specs.Message.{asks_by, empty_part}
 use Rattle.wire.specs.Reading.{capability_request_reading, capability_response_reading, channel_created_reading, add_virtual_channel_reading, cancel_request_reading, register_request_callback_reading, io_control_reading, retract_device_reading, io_control_completion_reading, urb_completion_reading, urb_completion_no_data_reading}
-use Rattle.wire.specs.declared.capability_request.CapabilityRequestRead.TheVariants as capability_request
-use Rattle.wire.specs.declared.capability_response.CapabilityResponseRead.TheVariants as capability_response
-use Rattle.wire.specs.declared.channel_created.ChannelCreatedRead.TheVariants as channel_created
-use Rattle.wire.specs.declared.add_virtual_channel.AddVirtualChannelRead.TheVariants as add_virtual_channel
-use Rattle.wire.specs.declared.cancel_request.CancelRequestRead.TheVariants as cancel_request
-use Rattle.wire.specs.declared.register_request_callback.RegisterRequestCallbackRead.TheVariants as register_request_callback
-use Rattle.wire.specs.declared.io_control.IoControlRead.TheVariants as io_control
-use Rattle.wire.specs.declared.retract_device.RetractDeviceRead.TheVariants as retract_device
-use Rattle.wire.specs.declared.io_control_completion.IoControlCompletionRead.TheVariants as io_control_completion
-use Rattle.wire.specs.declared.ts_urb_result.CompletionRead.TheVariants as completion
-use Rattle.wire.specs.declared.urb_completion.UrbCompletionRead.TheVariants as urb_completion
-use Rattle.wire.specs.declared.urb_completion_no_data.UrbCompletionNoDataRead.TheVariants as urb_completion_no_data
-use Rattle.wire.specs.declared.message.Asked.{Asked}
-use Rattle.wire.specs.declared.message.Asked.TheVariants.{Value, Callback}
+use Rattle.wire.specs.declared.message.Asked.TheVariants.{Callback}
 use Rattle.pieces.specs.declared.piece.Piece.{Piece}
 use Rattle.pieces.specs.declared.piece.Piece.TheVariants.{Word, Run}
 use Rattle.writer.specs.SharedMsgHeader.{head, interface_allowed}
@@ -51,6 +38,9 @@ use Rattle.fields.specs.Message.{fields_in}
 use Rattle.fields.specs.UrbCompletion.{no_data_in, urb_completion_in}
 use Rattle.writer_laws.specs.Layout.{cuts_from, spans_of}
 use Rattle.writer_laws.specs.Rebuilt.{Rebuilt, asks_some}
+use Rattle.wire.specs.declared.message.Asked.{Asked}
+use Rattle.wire.specs.declared.message.Unfit.{Unfit}
+use Rattle.wire.specs.declared.message.Unfit.TheVariants as unfit
 
 -- the header of a message: its first word is the interface and the mask, its third the function
 pub record Headed (i mask function : ℕ) (m : List ℕ) : Type 0 where
@@ -61,7 +51,7 @@ pub head_cut : (i mask function : ℕ) (m : List ℕ) (rest : List Piece) → He
 head_cut i mask function m rest h = ap (λ w. Word w ∷ Word (word_at m 4) ∷ Word function ∷ rest) (sym h.first) ∙ ap (λ w. Word (word_at m 0) ∷ Word (word_at m 4) ∷ Word w ∷ rest) (sym h.third)
 
 -- what is asked is not refused, so the test held
-pub asked : (t : Bool) (a : Asked) → asks_some (cond t a Value) ≡ true → t ≡ true
+pub asked : (t : Bool) (a : Result Asked Unfit) → asks_some (cond t a (Err unfit.Value)) ≡ true → t ≡ true
 asked true a e = refl
 asked false a e = e
 
@@ -111,91 +101,91 @@ module _ (m : List ℕ) (long : 12 ≤ length m) (fits : length m ≤ 65535) whe
   abbrev i : ℕ
   i = (interface_in (word_at m 0)).0
 
-  abbrev Asks : Kind → Asked → Type 0
+  abbrev Asks : Kind → Result Asked Unfit → Type 0
   Asks k a = asks_some a ≡ true → Rebuilt k m
 
   pub capability_request_rebuilt : Headed 0 0 0x100 m → Asks kind.CapabilityRequest (asks_by (capability_request_reading (capability_request_of m)))
   unfolding capability_request_of given_in pieces_of fields_in cuts_from spans_of
   capability_request_rebuilt hd =
-      field_by capability_request.Fails (λ r. Asks kind.CapabilityRequest (asks_by (capability_request_reading r))) (λ f. refused) m 12 4 _ λ a. ended_by capability_request.Fails (λ r. Asks kind.CapabilityRequest (asks_by (capability_request_reading r))) (λ f. refused) m 16 _ λ z.
+      field_by (λ r. Asks kind.CapabilityRequest (asks_by (capability_request_reading r))) (λ f. refused) m 12 4 _ λ a. ended_by (λ r. Asks kind.CapabilityRequest (asks_by (capability_request_reading r))) (λ f. refused) m 16 _ λ z.
       λ e. record { given = asked _ _ e; pieces = head_cut 0 0 0x100 m _ hd; spans = omega arith }
 
   pub capability_response_rebuilt : Headed 0 0 (word_at m 8) m → Asks kind.CapabilityResponse (asks_by (capability_response_reading (capability_response_of m)))
   unfolding capability_response_of given_in pieces_of fields_in cuts_from spans_of
   capability_response_rebuilt hd =
-      field_by capability_response.Fails (λ r. Asks kind.CapabilityResponse (asks_by (capability_response_reading r))) (λ f. refused) m 8 4 _ λ a. field_by capability_response.Fails (λ r. Asks kind.CapabilityResponse (asks_by (capability_response_reading r))) (λ f. refused) m 12 4 _ λ b. ended_by capability_response.Fails (λ r. Asks kind.CapabilityResponse (asks_by (capability_response_reading r))) (λ f. refused) m 16 _ λ z.
+      field_by (λ r. Asks kind.CapabilityResponse (asks_by (capability_response_reading r))) (λ f. refused) m 8 4 _ λ a. field_by (λ r. Asks kind.CapabilityResponse (asks_by (capability_response_reading r))) (λ f. refused) m 12 4 _ λ b. ended_by (λ r. Asks kind.CapabilityResponse (asks_by (capability_response_reading r))) (λ f. refused) m 16 _ λ z.
       λ e. record { given = asked _ _ e; pieces = head_cut 0 0 (word_at m 8) m _ hd; spans = omega arith }
 
   pub server_created_rebuilt : Headed 3 1 0x100 m → Asks kind.ChannelCreatedByServer (asks_by (channel_created_reading (channel_created_of m)))
   unfolding channel_created_of given_in pieces_of fields_in cuts_from spans_of
   server_created_rebuilt hd =
-      field_by channel_created.Fails (λ r. Asks kind.ChannelCreatedByServer (asks_by (channel_created_reading r))) (λ f. refused) m 12 4 _ λ a. field_by channel_created.Fails (λ r. Asks kind.ChannelCreatedByServer (asks_by (channel_created_reading r))) (λ f. refused) m 16 4 _ λ b. field_by channel_created.Fails (λ r. Asks kind.ChannelCreatedByServer (asks_by (channel_created_reading r))) (λ f. refused) m 20 4 _ λ c. ended_by channel_created.Fails (λ r. Asks kind.ChannelCreatedByServer (asks_by (channel_created_reading r))) (λ f. refused) m 24 _ λ z.
+      field_by (λ r. Asks kind.ChannelCreatedByServer (asks_by (channel_created_reading r))) (λ f. refused) m 12 4 _ λ a. field_by (λ r. Asks kind.ChannelCreatedByServer (asks_by (channel_created_reading r))) (λ f. refused) m 16 4 _ λ b. field_by (λ r. Asks kind.ChannelCreatedByServer (asks_by (channel_created_reading r))) (λ f. refused) m 20 4 _ λ c. ended_by (λ r. Asks kind.ChannelCreatedByServer (asks_by (channel_created_reading r))) (λ f. refused) m 24 _ λ z.
       λ e. record { given = asked _ _ e; pieces = head_cut 3 1 0x100 m _ hd; spans = omega arith }
 
   pub client_created_rebuilt : Headed 2 1 0x100 m → Asks kind.ChannelCreatedByClient (asks_by (channel_created_reading (channel_created_of m)))
   unfolding channel_created_of given_in pieces_of fields_in cuts_from spans_of
   client_created_rebuilt hd =
-      field_by channel_created.Fails (λ r. Asks kind.ChannelCreatedByClient (asks_by (channel_created_reading r))) (λ f. refused) m 12 4 _ λ a. field_by channel_created.Fails (λ r. Asks kind.ChannelCreatedByClient (asks_by (channel_created_reading r))) (λ f. refused) m 16 4 _ λ b. field_by channel_created.Fails (λ r. Asks kind.ChannelCreatedByClient (asks_by (channel_created_reading r))) (λ f. refused) m 20 4 _ λ c. ended_by channel_created.Fails (λ r. Asks kind.ChannelCreatedByClient (asks_by (channel_created_reading r))) (λ f. refused) m 24 _ λ z.
+      field_by (λ r. Asks kind.ChannelCreatedByClient (asks_by (channel_created_reading r))) (λ f. refused) m 12 4 _ λ a. field_by (λ r. Asks kind.ChannelCreatedByClient (asks_by (channel_created_reading r))) (λ f. refused) m 16 4 _ λ b. field_by (λ r. Asks kind.ChannelCreatedByClient (asks_by (channel_created_reading r))) (λ f. refused) m 20 4 _ λ c. ended_by (λ r. Asks kind.ChannelCreatedByClient (asks_by (channel_created_reading r))) (λ f. refused) m 24 _ λ z.
       λ e. record { given = asked _ _ e; pieces = head_cut 2 1 0x100 m _ hd; spans = omega arith }
 
   pub virtual_channel_rebuilt : Headed 1 1 0x100 m → Asks kind.AddVirtualChannel (asks_by (add_virtual_channel_reading (add_virtual_channel_of m)))
   unfolding add_virtual_channel_of given_in pieces_of fields_in cuts_from spans_of
   virtual_channel_rebuilt hd =
-      ended_by add_virtual_channel.Fails (λ r. Asks kind.AddVirtualChannel (asks_by (add_virtual_channel_reading r))) (λ f. refused) m 12 _ λ z.
+      ended_by (λ r. Asks kind.AddVirtualChannel (asks_by (add_virtual_channel_reading r))) (λ f. refused) m 12 _ λ z.
       λ e. record { given = refl; pieces = head_cut 1 1 0x100 m _ hd; spans = omega arith }
 
   pub cancel_rebuilt : Headed i 1 0x100 m → interface_allowed i ≡ true → Asks kind.CancelRequest (asks_by (cancel_request_reading (cancel_request_of m)))
   unfolding cancel_request_of given_in pieces_of fields_in cuts_from spans_of
   cancel_rebuilt hd known =
-      field_by cancel_request.Fails (λ r. Asks kind.CancelRequest (asks_by (cancel_request_reading r))) (λ f. refused) m 12 4 _ λ a. ended_by cancel_request.Fails (λ r. Asks kind.CancelRequest (asks_by (cancel_request_reading r))) (λ f. refused) m 16 _ λ z.
+      field_by (λ r. Asks kind.CancelRequest (asks_by (cancel_request_reading r))) (λ f. refused) m 12 4 _ λ a. ended_by (λ r. Asks kind.CancelRequest (asks_by (cancel_request_reading r))) (λ f. refused) m 16 _ λ z.
       λ e. record { given = known; pieces = head_cut i 1 0x100 m _ hd; spans = omega arith }
 
   pub retract_rebuilt : Headed i 1 0x107 m → interface_allowed i ≡ true → Asks kind.RetractDevice (asks_by (retract_device_reading (retract_device_of m)))
   unfolding retract_device_of given_in pieces_of fields_in cuts_from spans_of
   retract_rebuilt hd known =
-      field_by retract_device.Fails (λ r. Asks kind.RetractDevice (asks_by (retract_device_reading r))) (λ f. refused) m 12 4 _ λ a. ended_by retract_device.Fails (λ r. Asks kind.RetractDevice (asks_by (retract_device_reading r))) (λ f. refused) m 16 _ λ z.
+      field_by (λ r. Asks kind.RetractDevice (asks_by (retract_device_reading r))) (λ f. refused) m 12 4 _ λ a. ended_by (λ r. Asks kind.RetractDevice (asks_by (retract_device_reading r))) (λ f. refused) m 16 _ λ z.
       λ e. record { given = both known (asked _ _ e); pieces = head_cut i 1 0x107 m _ hd; spans = omega arith }
 
   pub io_control_rebuilt : Headed i 1 0x102 m → interface_allowed i ≡ true → Asks kind.IoControl (asks_by (io_control_reading (io_control_of m)))
   unfolding io_control_of io_control_with given_in pieces_of fields_in cuts_from spans_of
   io_control_rebuilt hd known =
-      field_by io_control.Fails (λ r. Asks kind.IoControl (asks_by (io_control_reading r))) (λ f. refused) m 12 4 _ λ a. field_by io_control.Fails (λ r. Asks kind.IoControl (asks_by (io_control_reading r))) (λ f. refused) m 16 4 _ λ b. field_by io_control.Fails (λ r. Asks kind.IoControl (asks_by (io_control_reading r))) (λ f. refused) m 20 (word_at m 16) _ λ c. field_by io_control.Fails (λ r. Asks kind.IoControl (asks_by (io_control_reading r))) (λ f. refused) m (20 + word_at m 16) 4 _ λ d. field_by io_control.Fails (λ r. Asks kind.IoControl (asks_by (io_control_reading r))) (λ f. refused) m (20 + word_at m 16 + 4) 4 _ λ g. ended_by io_control.Fails (λ r. Asks kind.IoControl (asks_by (io_control_reading r))) (λ f. refused) m (20 + word_at m 16 + 8) _ λ z.
+      field_by (λ r. Asks kind.IoControl (asks_by (io_control_reading r))) (λ f. refused) m 12 4 _ λ a. field_by (λ r. Asks kind.IoControl (asks_by (io_control_reading r))) (λ f. refused) m 16 4 _ λ b. field_by (λ r. Asks kind.IoControl (asks_by (io_control_reading r))) (λ f. refused) m 20 (word_at m 16) _ λ c. field_by (λ r. Asks kind.IoControl (asks_by (io_control_reading r))) (λ f. refused) m (20 + word_at m 16) 4 _ λ d. field_by (λ r. Asks kind.IoControl (asks_by (io_control_reading r))) (λ f. refused) m (20 + word_at m 16 + 4) 4 _ λ g. ended_by (λ r. Asks kind.IoControl (asks_by (io_control_reading r))) (λ f. refused) m (20 + word_at m 16 + 8) _ λ z.
       λ e. record { given = both known (part_in m _ (omega arith) fits); pieces = head_cut i 1 0x102 m _ hd; spans = omega arith }
 
   pub internal_rebuilt : Headed i 1 0x103 m → interface_allowed i ≡ true → Asks kind.InternalIoControl (asks_by (io_control_reading (io_control_of m)))
   unfolding io_control_of io_control_with given_in pieces_of fields_in cuts_from spans_of
   internal_rebuilt hd known =
-      field_by io_control.Fails (λ r. Asks kind.InternalIoControl (asks_by (io_control_reading r))) (λ f. refused) m 12 4 _ λ a. field_by io_control.Fails (λ r. Asks kind.InternalIoControl (asks_by (io_control_reading r))) (λ f. refused) m 16 4 _ λ b. field_by io_control.Fails (λ r. Asks kind.InternalIoControl (asks_by (io_control_reading r))) (λ f. refused) m 20 (word_at m 16) _ λ c. field_by io_control.Fails (λ r. Asks kind.InternalIoControl (asks_by (io_control_reading r))) (λ f. refused) m (20 + word_at m 16) 4 _ λ d. field_by io_control.Fails (λ r. Asks kind.InternalIoControl (asks_by (io_control_reading r))) (λ f. refused) m (20 + word_at m 16 + 4) 4 _ λ g. ended_by io_control.Fails (λ r. Asks kind.InternalIoControl (asks_by (io_control_reading r))) (λ f. refused) m (20 + word_at m 16 + 8) _ λ z.
+      field_by (λ r. Asks kind.InternalIoControl (asks_by (io_control_reading r))) (λ f. refused) m 12 4 _ λ a. field_by (λ r. Asks kind.InternalIoControl (asks_by (io_control_reading r))) (λ f. refused) m 16 4 _ λ b. field_by (λ r. Asks kind.InternalIoControl (asks_by (io_control_reading r))) (λ f. refused) m 20 (word_at m 16) _ λ c. field_by (λ r. Asks kind.InternalIoControl (asks_by (io_control_reading r))) (λ f. refused) m (20 + word_at m 16) 4 _ λ d. field_by (λ r. Asks kind.InternalIoControl (asks_by (io_control_reading r))) (λ f. refused) m (20 + word_at m 16 + 4) 4 _ λ g. ended_by (λ r. Asks kind.InternalIoControl (asks_by (io_control_reading r))) (λ f. refused) m (20 + word_at m 16 + 8) _ λ z.
       λ e. record { given = both known (part_in m _ (omega arith) fits); pieces = head_cut i 1 0x103 m _ hd; spans = omega arith }
 
   pub io_completion_rebuilt : Headed i 1 0x100 m → interface_allowed i ≡ true → Asks kind.IoControlCompletion (asks_by (io_control_completion_reading (io_control_completion_of m)))
   unfolding io_control_completion_of io_control_completion_with given_in pieces_of fields_in cuts_from spans_of
   io_completion_rebuilt hd known =
-      field_by io_control_completion.Fails (λ r. Asks kind.IoControlCompletion (asks_by (io_control_completion_reading r))) (λ f. refused) m 12 4 _ λ a. field_by io_control_completion.Fails (λ r. Asks kind.IoControlCompletion (asks_by (io_control_completion_reading r))) (λ f. refused) m 16 4 _ λ b. field_by io_control_completion.Fails (λ r. Asks kind.IoControlCompletion (asks_by (io_control_completion_reading r))) (λ f. refused) m 20 4 _ λ c. field_by io_control_completion.Fails (λ r. Asks kind.IoControlCompletion (asks_by (io_control_completion_reading r))) (λ f. refused) m 24 4 _ λ d. field_by io_control_completion.Fails (λ r. Asks kind.IoControlCompletion (asks_by (io_control_completion_reading r))) (λ f. refused) m 28 (word_at m 24) _ λ g. ended_by io_control_completion.Fails (λ r. Asks kind.IoControlCompletion (asks_by (io_control_completion_reading r))) (λ f. refused) m (28 + word_at m 24) _ λ z.
+      field_by (λ r. Asks kind.IoControlCompletion (asks_by (io_control_completion_reading r))) (λ f. refused) m 12 4 _ λ a. field_by (λ r. Asks kind.IoControlCompletion (asks_by (io_control_completion_reading r))) (λ f. refused) m 16 4 _ λ b. field_by (λ r. Asks kind.IoControlCompletion (asks_by (io_control_completion_reading r))) (λ f. refused) m 20 4 _ λ c. field_by (λ r. Asks kind.IoControlCompletion (asks_by (io_control_completion_reading r))) (λ f. refused) m 24 4 _ λ d. field_by (λ r. Asks kind.IoControlCompletion (asks_by (io_control_completion_reading r))) (λ f. refused) m 28 (word_at m 24) _ λ g. ended_by (λ r. Asks kind.IoControlCompletion (asks_by (io_control_completion_reading r))) (λ f. refused) m (28 + word_at m 24) _ λ z.
       λ e. record { given = both known (part_in m _ (omega arith) fits); pieces = head_cut i 1 0x100 m _ hd; spans = omega arith }
 
   pub callback_rebuilt : Headed i 1 0x101 m → interface_allowed i ≡ true → Asks kind.RegisterRequestCallback (asks_by (register_request_callback_reading (register_request_callback_of m)))
   unfolding register_request_callback_of given_in pieces_of fields_in cuts_from spans_of
   callback_rebuilt hd at =
-      field_by register_request_callback.Fails (λ r. Asks kind.RegisterRequestCallback (asks_by (register_request_callback_reading r))) (λ f. refused) m 12 4 _ λ a. either (λ r. Asks kind.RegisterRequestCallback (asks_by (register_request_callback_reading r))) (eqb (word_at m 12) 0) _ _
-      (λ t. ended_by register_request_callback.Fails (λ r. Asks kind.RegisterRequestCallback (asks_by (register_request_callback_reading r))) (λ f. refused) m 16 _ λ z. λ e. record { given = rw t (both at t); pieces = rw t (head_cut i 1 0x101 m _ hd); spans = rw t (omega arith) })
-      (λ t. field_by register_request_callback.Fails (λ r. Asks kind.RegisterRequestCallback (asks_by (register_request_callback_reading r))) (λ f. refused) m 16 4 _ λ b. ended_by register_request_callback.Fails (λ r. Asks kind.RegisterRequestCallback (asks_by (register_request_callback_reading r))) (λ f. refused) m 20 _ λ z. λ e. record { given = rw t (both at (rw t (asked (assignable (interface_in (word_at m 16))) (Callback (known.Is (interface_in (word_at m 16)))) e))); pieces = rw t (head_cut i 1 0x101 m _ hd); spans = rw t (omega arith) })
+      field_by (λ r. Asks kind.RegisterRequestCallback (asks_by (register_request_callback_reading r))) (λ f. refused) m 12 4 _ λ a. either (λ r. Asks kind.RegisterRequestCallback (asks_by (register_request_callback_reading r))) (eqb (word_at m 12) 0) _ _
+      (λ t. ended_by (λ r. Asks kind.RegisterRequestCallback (asks_by (register_request_callback_reading r))) (λ f. refused) m 16 _ λ z. λ e. record { given = rw t (both at t); pieces = rw t (head_cut i 1 0x101 m _ hd); spans = rw t (omega arith) })
+      (λ t. field_by (λ r. Asks kind.RegisterRequestCallback (asks_by (register_request_callback_reading r))) (λ f. refused) m 16 4 _ λ b. ended_by (λ r. Asks kind.RegisterRequestCallback (asks_by (register_request_callback_reading r))) (λ f. refused) m 20 _ λ z. λ e. record { given = rw t (both at (rw t (asked (assignable (interface_in (word_at m 16))) (Ok (Callback (Some (interface_in (word_at m 16))))) e))); pieces = rw t (head_cut i 1 0x101 m _ hd); spans = rw t (omega arith) })
 
   pub urb_completion_rebuilt : Headed i 1 0x101 m → interface_allowed i ≡ true → Asks kind.UrbCompletion (asks_by (urb_completion_reading (urb_completion_of m)))
   unfolding urb_completion_of with_output_of completion_of completion_with completed_of given_in pieces_of fields_in urb_completion_in no_data_in cuts_from spans_of
   urb_completion_rebuilt hd known =
-      field_by completion.Fails (λ r. Asks kind.UrbCompletion (asks_by (urb_completion_reading (with_output_from m r)))) (λ f. refused) m 12 4 _ λ a. field_by completion.Fails (λ r. Asks kind.UrbCompletion (asks_by (urb_completion_reading (with_output_from m r)))) (λ f. refused) m 16 4 _ λ b. at_least_by completion.Fails (λ r. Asks kind.UrbCompletion (asks_by (urb_completion_reading (with_output_from m r)))) (λ f. refused) 8 (word_at m 16) 16 _ λ c. field_by completion.Fails (λ r. Asks kind.UrbCompletion (asks_by (urb_completion_reading (with_output_from m r)))) (λ f. refused) m 20 (word_at m 16) _ λ d.
-      agrees_by completion.Fails (λ r. Asks kind.UrbCompletion (asks_by (urb_completion_reading (with_output_from m r)))) (λ f. refused) (half_at m 20) (word_at m 16) 20 _ λ g. field_by completion.Fails (λ r. Asks kind.UrbCompletion (asks_by (urb_completion_reading (with_output_from m r)))) (λ f. refused) m (20 + word_at m 16) 4 _ λ j. field_by completion.Fails (λ r. Asks kind.UrbCompletion (asks_by (urb_completion_reading (with_output_from m r)))) (λ f. refused) m (20 + word_at m 16 + 4) 4 _ λ l.
-      field_by urb_completion.Fails (λ r. Asks kind.UrbCompletion (asks_by (urb_completion_reading r))) (λ f. refused) m (20 + word_at m 16 + 8) (word_at m (20 + word_at m 16 + 4)) _ λ n.
-      ended_by urb_completion.Fails (λ r. Asks kind.UrbCompletion (asks_by (urb_completion_reading r))) (λ f. refused) m (20 + word_at m 16 + 8 + word_at m (20 + word_at m 16 + 4)) _ λ z.
+      field_by (λ r. Asks kind.UrbCompletion (asks_by (urb_completion_reading (with_output_from m r)))) (λ f. refused) m 12 4 _ λ a. field_by (λ r. Asks kind.UrbCompletion (asks_by (urb_completion_reading (with_output_from m r)))) (λ f. refused) m 16 4 _ λ b. at_least_by (λ r. Asks kind.UrbCompletion (asks_by (urb_completion_reading (with_output_from m r)))) (λ f. refused) 8 (word_at m 16) 16 _ λ c. field_by (λ r. Asks kind.UrbCompletion (asks_by (urb_completion_reading (with_output_from m r)))) (λ f. refused) m 20 (word_at m 16) _ λ d.
+      agrees_by (λ r. Asks kind.UrbCompletion (asks_by (urb_completion_reading (with_output_from m r)))) (λ f. refused) (half_at m 20) (word_at m 16) 20 _ λ g. field_by (λ r. Asks kind.UrbCompletion (asks_by (urb_completion_reading (with_output_from m r)))) (λ f. refused) m (20 + word_at m 16) 4 _ λ j. field_by (λ r. Asks kind.UrbCompletion (asks_by (urb_completion_reading (with_output_from m r)))) (λ f. refused) m (20 + word_at m 16 + 4) 4 _ λ l.
+      field_by (λ r. Asks kind.UrbCompletion (asks_by (urb_completion_reading r))) (λ f. refused) m (20 + word_at m 16 + 8) (word_at m (20 + word_at m 16 + 4)) _ λ n.
+      ended_by (λ r. Asks kind.UrbCompletion (asks_by (urb_completion_reading r))) (λ f. refused) m (20 + word_at m 16 + 8 + word_at m (20 + word_at m 16 + 4)) _ λ z.
       λ e. let p : 20 + word_at m 16 + 4 + 4 ≡ 20 + word_at m 16 + 8 = omega arith in let w : 20 + word_at m 16 + 8 ≤ length m = subst (λ k. k ≤ length m) p (reaches (20 + word_at m 16 + 4) (length m) l) in let o = holds (20 + word_at m 16 + 8) (word_at m (20 + word_at m 16 + 4)) (length m) w n in
       record { given = both (both known (part_in m _ (behind_result (word_at m 16) (length m) c d) fits)) (both (part_in m _ o fits) (asked _ _ e)); pieces = head_cut i 1 0x101 m _ hd ∙ ap (λ r. Word (word_at m 0) ∷ Word (word_at m 4) ∷ Word (word_at m 8) ∷ r) (completion_cut m (word_at m 16) c g (λ k. Run (record { start = k; size = word_at m (20 + word_at m 16 + 4) }) ∷ [])); spans = result_spans (word_at m 16) (word_at m (20 + word_at m 16 + 4)) (length m) c o z }
 
   pub no_data_rebuilt : Headed i 1 0x102 m → interface_allowed i ≡ true → Asks kind.UrbCompletionNoData (asks_by (urb_completion_no_data_reading (urb_completion_no_data_of m)))
   unfolding urb_completion_no_data_of completion_of completion_with completed_of given_in pieces_of fields_in urb_completion_in no_data_in cuts_from spans_of
   no_data_rebuilt hd known =
-      field_by completion.Fails (λ r. Asks kind.UrbCompletionNoData (asks_by (urb_completion_no_data_reading (no_data_from m r)))) (λ f. refused) m 12 4 _ λ a. field_by completion.Fails (λ r. Asks kind.UrbCompletionNoData (asks_by (urb_completion_no_data_reading (no_data_from m r)))) (λ f. refused) m 16 4 _ λ b. at_least_by completion.Fails (λ r. Asks kind.UrbCompletionNoData (asks_by (urb_completion_no_data_reading (no_data_from m r)))) (λ f. refused) 8 (word_at m 16) 16 _ λ c. field_by completion.Fails (λ r. Asks kind.UrbCompletionNoData (asks_by (urb_completion_no_data_reading (no_data_from m r)))) (λ f. refused) m 20 (word_at m 16) _ λ d.
-      agrees_by completion.Fails (λ r. Asks kind.UrbCompletionNoData (asks_by (urb_completion_no_data_reading (no_data_from m r)))) (λ f. refused) (half_at m 20) (word_at m 16) 20 _ λ g. field_by completion.Fails (λ r. Asks kind.UrbCompletionNoData (asks_by (urb_completion_no_data_reading (no_data_from m r)))) (λ f. refused) m (20 + word_at m 16) 4 _ λ j. field_by completion.Fails (λ r. Asks kind.UrbCompletionNoData (asks_by (urb_completion_no_data_reading (no_data_from m r)))) (λ f. refused) m (20 + word_at m 16 + 4) 4 _ λ l.
-      ended_by urb_completion_no_data.Fails (λ r. Asks kind.UrbCompletionNoData (asks_by (urb_completion_no_data_reading r))) (λ f. refused) m (20 + word_at m 16 + 8) _ λ z.
+      field_by (λ r. Asks kind.UrbCompletionNoData (asks_by (urb_completion_no_data_reading (no_data_from m r)))) (λ f. refused) m 12 4 _ λ a. field_by (λ r. Asks kind.UrbCompletionNoData (asks_by (urb_completion_no_data_reading (no_data_from m r)))) (λ f. refused) m 16 4 _ λ b. at_least_by (λ r. Asks kind.UrbCompletionNoData (asks_by (urb_completion_no_data_reading (no_data_from m r)))) (λ f. refused) 8 (word_at m 16) 16 _ λ c. field_by (λ r. Asks kind.UrbCompletionNoData (asks_by (urb_completion_no_data_reading (no_data_from m r)))) (λ f. refused) m 20 (word_at m 16) _ λ d.
+      agrees_by (λ r. Asks kind.UrbCompletionNoData (asks_by (urb_completion_no_data_reading (no_data_from m r)))) (λ f. refused) (half_at m 20) (word_at m 16) 20 _ λ g. field_by (λ r. Asks kind.UrbCompletionNoData (asks_by (urb_completion_no_data_reading (no_data_from m r)))) (λ f. refused) m (20 + word_at m 16) 4 _ λ j. field_by (λ r. Asks kind.UrbCompletionNoData (asks_by (urb_completion_no_data_reading (no_data_from m r)))) (λ f. refused) m (20 + word_at m 16 + 4) 4 _ λ l.
+      ended_by (λ r. Asks kind.UrbCompletionNoData (asks_by (urb_completion_no_data_reading r))) (λ f. refused) m (20 + word_at m 16 + 8) _ λ z.
       λ e. let p : 20 + word_at m 16 + 4 + 4 ≡ 20 + word_at m 16 + 8 = omega arith in let w : 20 + word_at m 16 + 8 ≤ length m = subst (λ k. k ≤ length m) p (reaches (20 + word_at m 16 + 4) (length m) l) in
       record { given = both known (part_in m _ (behind_result (word_at m 16) (length m) c d) fits); pieces = head_cut i 1 0x102 m _ hd ∙ ap (λ r. Word (word_at m 0) ∷ Word (word_at m 4) ∷ Word (word_at m 8) ∷ r) (completion_cut m (word_at m 16) c g (λ k. Run empty_part ∷ [])); spans = result_spans (word_at m 16) 0 (length m) c (subst (λ k. k ≤ length m) (sym (add_zero (20 + word_at m 16 + 8))) w) (subst (λ k. length m ≤ k) (sym (add_zero (20 + word_at m 16 + 8))) z) }

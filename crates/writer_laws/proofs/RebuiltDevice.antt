@@ -1,4 +1,6 @@
 -- ADD_DEVICE is rebuilt from its fields.
+use Rattle.std.proofs.lemmas.Bool.{and_parts}
+use Rattle.std.specs.Prelude.{Result, Ok, Err}
 use Prim.Native.Nat.{ℕ, zero, suc, ◌+◌, ◌-◌, ◌*◌, ◌/◌, ◌%◌, ◌≤◌}
 use native.Mathlib.Omega.{arith}
 use mathlib.Core.Path.{◌≡◌, refl, ap, sym, ◌∙◌}
@@ -16,17 +18,10 @@ use Rattle.header.specs.Ids.{assignable, interface_in, mask_in}
 use Rattle.answers.specs.declared.kind.Kind.TheVariants as kind
 use Rattle.texts.specs.Text.{last_unit, list_allowed, prior_unit, text_allowed, text_of, units_of}
 use Rattle.texts.specs.declared.text.Text.{Text}
-use Rattle.texts.specs.declared.text.TextRead.{TextRead}
-use Rattle.texts.specs.declared.text.TextRead.TheVariants as text
 use Rattle.device.specs.DeviceCapabilities.{capabilities_allowed, capabilities_of}
-use Rattle.device.specs.declared.device_capabilities.CapabilitiesRead.TheVariants as capabilities
 use Rattle.wire.specs.AddDevice.{add_device_allowed, add_device_of, classes_from, device_of, device_with, names_from, pair_from, pair_of, pair_with, text_pair_allowed}
-use Rattle.wire.specs.declared.add_device.PairRead.{PairRead}
-use Rattle.wire.specs.declared.add_device.PairRead.TheVariants as pair
 use Rattle.wire.specs.declared.add_device.AddDevice.{AddDevice}
-use Rattle.wire.specs.declared.add_device.AddDeviceRead.TheVariants as add_device
 use Rattle.wire.specs.Message.{asks_by}
-use Rattle.wire.specs.declared.message.Asked.{Asked}
 use Rattle.wire.specs.Reading.{add_device_reading}
 use Rattle.pieces.specs.declared.piece.Piece.{Piece}
 use Rattle.pieces.specs.declared.piece.Piece.TheVariants.{Word, Run}
@@ -38,6 +33,9 @@ use Rattle.fields.specs.Message.{fields_in}
 use Rattle.writer_laws.specs.Layout.{cuts_from, spans_of}
 use Rattle.writer_laws.specs.Rebuilt.{Rebuilt, asks_some}
 use Rattle.writer_laws.proofs.Rebuilt.{Headed, asked, both, head_cut, holds, part_in, reaches, refused}
+use Rattle.wire.specs.declared.add_device.TextPair.{TextPair}
+use Rattle.wire.specs.declared.message.Asked.{Asked}
+use Rattle.wire.specs.declared.message.Unfit.{Unfit}
 
 -- the text whose count stands at a place
 abbrev pub text_at : List ℕ → ℕ → Text
@@ -86,10 +84,6 @@ fits_by : (m : List ℕ) (at : ℕ) (allows : Text → Bool) → at + 4 + 2 * wo
     → (part_allowed m (record { start = at + 4; size = 2 * word_at m at }) && (eqb (2 * word_at m at % 2) 0 && allows (text_given m (record { start = at + 4; size = 2 * word_at m at })))) ≡ true
 fits_by m at allows h l e = both (part_in m _ h l) (both (eq-eqb _ 0 (even (word_at m at))) (rw (text_same m at) e))
 
-pub split : (a b : Bool) → (a && b) ≡ true → (a ≡ true) × (b ≡ true)
-split true b e = (refl, e)
-split false b e = refused e
-
 -- the places of the seven capability fields
 seven_cut : (m : List ℕ) (at : ℕ)
     → Word (word_at m at) ∷ Word (word_at m (at + 4)) ∷ Word (word_at m (at + 8)) ∷ Word (word_at m (at + 12)) ∷ Word (word_at m (at + 16)) ∷ Word (word_at m (at + 20)) ∷ Word (word_at m (at + 24)) ∷ []
@@ -110,20 +104,20 @@ device_spans : (a b c d l : ℕ) → 24 + a + 4 + b + 4 + c + 4 + d + 28 ≡ l
     → 4 + (4 + (4 + (4 + (4 + (4 + (a + (4 + (b + (4 + (c + (4 + (d + (4 + (4 + (4 + (4 + (4 + (4 + (4 + 0))))))))))))))))))) ≡ l
 device_spans a b c d l h = omega arith
 
-abbrev Asks : List ℕ → Asked → Type 0
+abbrev Asks : List ℕ → Result Asked Unfit → Type 0
 Asks m a = asks_some a ≡ true → Rebuilt kind.AddDevice m
 
 module _ (m : List ℕ) (fits : length m ≤ 65535) where
   -- a text by its reader: its count and its units are there
-  text_by : (P : TextRead → Type 0) → ((f : Fault) → P (text.Fails f)) → (at : ℕ) → (at + 4 + 2 * word_at m at ≤ length m → P (text.Fits (text_at m at) (at + 4 + 2 * word_at m at))) → P (text_of m at)
+  text_by : (P : Result (Text × ℕ) Fault → Type 0) → ((f : Fault) → P (Err f)) → (at : ℕ) → (at + 4 + 2 * word_at m at ≤ length m → P (Ok ((text_at m at), (at + 4 + 2 * word_at m at)))) → P (text_of m at)
   unfolding text_of units_of
-  text_by P bad at next = field_by text.Fails P bad m at 4 _ λ a. field_by text.Fails P bad m (at + 4) (2 * word_at m at) _ λ b. next (holds (at + 4) (2 * word_at m at) (length m) (reaches at (length m) a) b)
+  text_by P bad at next = field_by P bad m at 4 _ λ a. field_by P bad m (at + 4) (2 * word_at m at) _ λ b. next (holds (at + 4) (2 * word_at m at) (length m) (reaches at (length m) a) b)
 
   abbrev pub second : ℕ → ℕ
   second at = at + 4 + 2 * word_at m at
 
-  pub pair_by : (P : PairRead → Type 0) → ((f : Fault) → P (pair.Fails f)) → (at : ℕ)
-      → (second at ≤ length m → second (second at) ≤ length m → P (pair.Fits (record { first = text_at m at; second = text_at m (second at) }) (second (second at)))) → P (pair_of m at)
+  pub pair_by : (P : Result (TextPair × ℕ) Fault → Type 0) → ((f : Fault) → P (Err f)) → (at : ℕ)
+      → (second at ≤ length m → second (second at) ≤ length m → P (Ok ((record { first = text_at m at; second = text_at m (second at) }), (second (second at))))) → P (pair_of m at)
   unfolding pair_of
   pair_by P bad at next =
       text_by (λ r. P (pair_from m r)) bad at λ a. text_by (λ r. P (pair_with (text_at m at) r)) bad (second at) λ b. next a b
@@ -143,12 +137,12 @@ module _ (m : List ℕ) (fits : length m ≤ 65535) where
       let b4 = capabilities_allowed found.capabilities in
       let b3 = text_pair_allowed found.container found.compatible in
       let b2 = text_pair_allowed found.instance found.hardware in
-      let e1 = split (eqb (word_at m 12) 1) (assignable (interface_in (word_at m 16)) && (b2 && (b3 && b4))) e in
-      let e2 = split (assignable (interface_in (word_at m 16))) (b2 && (b3 && b4)) e1.1 in
-      let e3 = split b2 (b3 && b4) e2.1 in
-      let e4 = split b3 b4 e3.1 in
-      let names = split (text_allowed (text_at m 20)) (list_allowed (text_at m (second 20))) e3.0 in
-      let classes = split (text_allowed (text_at m (second third))) (list_allowed (text_at m third)) e4.0 in
+      let e1 = and_parts (eqb (word_at m 12) 1) (assignable (interface_in (word_at m 16)) && (b2 && (b3 && b4))) e in
+      let e2 = and_parts (assignable (interface_in (word_at m 16))) (b2 && (b3 && b4)) e1.1 in
+      let e3 = and_parts b2 (b3 && b4) e2.1 in
+      let e4 = and_parts b3 b4 e3.1 in
+      let names = and_parts (text_allowed (text_at m 20)) (list_allowed (text_at m (second 20))) e3.0 in
+      let classes = and_parts (text_allowed (text_at m (second third))) (list_allowed (text_at m third)) e4.0 in
       record {
         given = both e1.0 (both e2.0 (both (fits_by m 20 text_allowed a fits names.0) (both (fits_by m (second 20) list_allowed b fits names.1) (both (fits_by m third list_allowed c fits classes.1) (both (fits_by m (second third) text_allowed d fits classes.0) e4.1)))));
         pieces = head_cut 1 1 0x101 m _ hd ∙ ap (λ r. Word (word_at m 0) ∷ Word (word_at m 4) ∷ Word (word_at m 8) ∷ Word (word_at m 12) ∷ Word (word_at m 16) ∷ r)
@@ -163,9 +157,9 @@ module _ (m : List ℕ) (fits : length m ≤ 65535) where
   pub device_rebuilt : Headed 1 1 0x101 m → Asks m (asks_by (add_device_reading (add_device_of m)))
   unfolding add_device_of device_of capabilities_of
   device_rebuilt hd =
-      field_by add_device.Fails (λ r. Asks m (asks_by (add_device_reading r))) (λ f. refused) m 12 4 _ λ x. field_by add_device.Fails (λ r. Asks m (asks_by (add_device_reading r))) (λ f. refused) m 16 4 _ λ y.
+      field_by (λ r. Asks m (asks_by (add_device_reading r))) (λ f. refused) m 12 4 _ λ x. field_by (λ r. Asks m (asks_by (add_device_reading r))) (λ f. refused) m 16 4 _ λ y.
       pair_by (λ r. Asks m (asks_by (add_device_reading (names_from m r)))) (λ f. refused) 20 λ a b.
       pair_by (λ r. Asks m (asks_by (add_device_reading (classes_from m (record { first = text_at m 20; second = text_at m (second 20) }) r)))) (λ f. refused) third λ c d.
-      by_test capabilities.Fails (λ r. Asks m (asks_by (add_device_reading (device_with m (record { first = text_at m 20; second = text_at m (second 20) }) (record { first = text_at m third; second = text_at m (second third) }) r)))) (λ f. refused) (ltb (left m last) 28) _ _ λ t.
-      ended_by add_device.Fails (λ r. Asks m (asks_by (add_device_reading r))) (λ f. refused) m (last + 28) _ λ z.
+      by_test (λ r. Asks m (asks_by (add_device_reading (device_with m (record { first = text_at m 20; second = text_at m (second 20) }) (record { first = text_at m third; second = text_at m (second third) }) r)))) (λ f. refused) (ltb (left m last) 28) _ _ λ t.
+      ended_by (λ r. Asks m (asks_by (add_device_reading r))) (λ f. refused) m (last + 28) _ λ z.
       λ e. rebuilt_found hd a b c d (exactly last (length m) (ltb-false (left m last) 28 t) z) (asked (add_device_allowed found) _ e)

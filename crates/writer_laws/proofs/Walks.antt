@@ -1,4 +1,5 @@
 -- Two interface lists whose rows are alike are walked alike, wherever they stand: the walk looks at Length and NumberOfPipes alone.
+use Rattle.std.specs.Prelude.{Result, Ok, Err, max}
 use Prim.Native.Nat.{ℕ, zero, suc, ◌+◌, ◌-◌, ◌*◌, ◌/◌, ◌<◌, ◌≤◌}
 use native.Mathlib.Omega.{arith}
 use mathlib.Core.Path.{◌≡◌, refl, subst}
@@ -10,11 +11,11 @@ use lib.Dec.{ltb}
 use borrow.Author.Tests.{le-ltb}
 use Rattle.words.specs.Words.{byte_at, half_at, word_at}
 use Rattle.words.specs.Layout.{left}
+use Rattle.words.proofs.Steps.{ok_value, ok_end}
 use Rattle.words.specs.declared.layout.Fault.TheVariants.{RanOut, Disagrees}
-use Rattle.urb.specs.Interfaces.{interface_field, interfaces_of, larger, length_agrees, pipes_of}
-use Rattle.urb.specs.declared.interfaces.Walk.{Walk}
-use Rattle.urb.specs.declared.interfaces.Walk.TheVariants.{End, Fails}
-use Rattle.urb.proofs.Walk.{interfaces_end, pipes_closed, pipes_end}
+use Rattle.urb.specs.Interfaces.{interface_field, interfaces_of, length_agrees, pipes_of}
+use Rattle.urb.proofs.Walk.{never, interfaces_end, pipes_closed, pipes_end}
+use Rattle.words.specs.declared.layout.Fault.{Fault}
 
 -- row by row the same Length, or the same two bytes there, and the same NumberOfPipes
 abbrev pub Alike : List ℕ → List ℕ → ℕ → ℕ → ℕ → Type 0
@@ -22,41 +23,38 @@ Alike u v a b e = (j x y : ℕ) → x ≡ a + 12 * j → y ≡ b + 12 * j → x 
 
 -- a walk that came to an end: at so many rows behind its start, and in the other list at as many
 abbrev pub Along : List ℕ → ℕ → ℕ → ℕ → ℕ → ℕ → ℕ → Type 0
-Along v n most a b e p = (r : ℕ) × (e ≡ a + 12 * r) × (interfaces_of v n most b ≡ End (b + 12 * r) p)
-
-never : (x : Walk) (e p : ℕ) {A : Type 0} → (x ≡ End e p → ◌≡◌ {A = ℕ} 0 1) → x ≡ End e p → A
-never x e p f h = let z = f h in absurd (omega arith)
+Along v n most a b e p = (r : ℕ) × (e ≡ a + 12 * r) × (interfaces_of v n most b ≡ Ok ((b + 12 * r), p))
 
 -- one interface and its pipes, in the other list
 step_along : (u v : List ℕ) (n most a b r : ℕ) (p : ℕ) → b + 12 + 12 * word_at u (a + 8) ≤ length v → half_at v b ≡ half_at u a → word_at v (b + 8) ≡ word_at u (a + 8)
-    → length_agrees (half_at u a) (word_at u (a + 8)) ≡ true → interfaces_of v n (larger most (word_at u (a + 8))) (b + 12 + 12 * word_at u (a + 8)) ≡ End (b + 12 + 12 * word_at u (a + 8) + 12 * r) p
-    → interfaces_of v (suc n) most b ≡ End (b + 12 + 12 * word_at u (a + 8) + 12 * r) p
+    → length_agrees (half_at u a) (word_at u (a + 8)) ≡ true → interfaces_of v n (max most (word_at u (a + 8))) (b + 12 + 12 * word_at u (a + 8)) ≡ Ok ((b + 12 + 12 * word_at u (a + 8) + 12 * r), p)
+    → interfaces_of v (suc n) most b ≡ Ok ((b + 12 + 12 * word_at u (a + 8) + 12 * r), p)
 unfolding interfaces_of
 step_along u v n most a b r p l h w t i =
-    rw (le-ltb (left v b) 12 (omega arith), h, w, t, pipes_closed v (interfaces_of v n (larger most (word_at u (a + 8)))) (word_at u (a + 8)) (b + 12), le-ltb (left v (b + 12) / 12) (word_at u (a + 8)) (omega arith)) i
+    rw (le-ltb (left v b) 12 (omega arith), h, w, t, pipes_closed v (interfaces_of v n (max most (word_at u (a + 8)))) (word_at u (a + 8)) (b + 12), le-ltb (left v (b + 12) / 12) (word_at u (a + 8)) (omega arith)) i
 
-pub along : (u v : List ℕ) (n most a b e p : ℕ) → interfaces_of u n most a ≡ End e p → Alike u v a b e → b + (e - a) ≤ length v → Along v n most a b e p
+pub along : (u v : List ℕ) (n most a b e p : ℕ) → interfaces_of u n most a ≡ Ok (e, p) → Alike u v a b e → b + (e - a) ≤ length v → Along v n most a b e p
 unfolding interfaces_of
 along u v zero most a b e p h s l =
-    let q : a ≡ e = cc in let o : most ≡ p = cc in
+    let q = ok_value a e most p h in let o = ok_end a e most p h in
     (0, omega arith, let z : b ≡ b + 12 * 0 = omega arith in rw (← z, o))
-along u v (suc n) most a b e p h s l = go (ltb (left u a) 12) refl (length_agrees (half_at u a) (word_at u (a + 8))) refl h (λ x y. along u v n (larger most (word_at u (a + 8))) x y e p)
+along u v (suc n) most a b e p h s l = go (ltb (left u a) 12) refl (length_agrees (half_at u a) (word_at u (a + 8))) refl h (λ x y. along u v n (max most (word_at u (a + 8))) x y e p)
   where
     go : (d : Bool) → ltb (left u a) 12 ≡ d → (t : Bool) → length_agrees (half_at u a) (word_at u (a + 8)) ≡ t
-        → cond d (Fails (RanOut (a + interface_field (left u a)))) (cond t (pipes_of u (interfaces_of u n (larger most (word_at u (a + 8)))) (word_at u (a + 8)) (a + 12)) (Fails (Disagrees a))) ≡ End e p
-        → ((x y : ℕ) → interfaces_of u n (larger most (word_at u (a + 8))) x ≡ End e p → Alike u v x y e → y + (e - x) ≤ length v → Along v n (larger most (word_at u (a + 8))) x y e p) → Along v (suc n) most a b e p
+        → cond d (Err (RanOut (a + interface_field (left u a)))) (cond t (pipes_of u (interfaces_of u n (max most (word_at u (a + 8)))) (word_at u (a + 8)) (a + 12)) (Err (Disagrees a))) ≡ Ok (e, p)
+        → ((x y : ℕ) → interfaces_of u n (max most (word_at u (a + 8))) x ≡ Ok (e, p) → Alike u v x y e → y + (e - x) ≤ length v → Along v n (max most (word_at u (a + 8))) x y e p) → Along v (suc n) most a b e p
     go true d t f q i = never _ e p (λ z. cc) q
     go false d false f q i = never _ e p (λ z. cc) q
     go false d true f q i =
         let k = word_at u (a + 8) in
-        let after = pipes_end u (interfaces_of u n (larger most k)) k (a + 12) e p q in
+        let after = pipes_end u (interfaces_of u n (max most k)) k (a + 12) e p q in
         let x = after.0 in
-        let last = (interfaces_end u n (larger most k) x e p after.1).0 in
+        let last = (interfaces_end u n (max most k) x e p after.1).0 in
         let y = b + 12 + 12 * k in
         let rest = i x y after.1 (λ j x' y' ex ey m. s (1 + k + j) x' y' (omega (arith, after.2)) (omega arith) m) (omega (arith, after.2, last)) in
         let one = s 0 a b (omega arith) (omega arith) (omega (arith, after.2, last)) in
         let w = step_along u v n most a b rest.0 p (omega (arith, after.2, last)) one.0 one.1 f rest.2 in
-        (1 + k + rest.0, omega (arith, after.2, rest.1), subst (λ z. interfaces_of v (suc n) most b ≡ End z p) (further b k rest.0) w)
+        (1 + k + rest.0, omega (arith, after.2, rest.1), subst (λ z. interfaces_of v (suc n) most b ≡ Ok (z, p)) (further b k rest.0) w)
       where
         further : (b k r : ℕ) → b + 12 + 12 * k + 12 * r ≡ b + 12 * (1 + k + r)
         further b k r = omega arith

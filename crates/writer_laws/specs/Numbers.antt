@@ -1,8 +1,7 @@
 -- What a theorem says of an interface that was written from plain numbers, in rows of three: at a place of a message w it says them (000 2.2.9.1.2, 2.2.9.1.3).
-use Rattle.std.specs.Prelude.{ℕ, ◌+◌, ◌*◌, ◌-◌, ◌/◌, ◌<◌, ◌≡◌, List, get_or, length}
+use Rattle.std.specs.Prelude.{ℕ, ◌+◌, ◌*◌, ◌-◌, ◌/◌, ◌<◌, ◌≡◌, List, get_or, length, Ok, max}
 use Rattle.words.specs.Words.{byte_at, half_at, word_at}
-use Rattle.urb.specs.Interfaces.{interfaces_of, larger}
-use Rattle.urb.specs.declared.interfaces.Walk.TheVariants.{End}
+use Rattle.urb.specs.Interfaces.{interfaces_of}
 
 -- a pipe whose numbers stand from the k-th on
 pub record PipeSays (w : List ℕ) (at : ℕ) (ns : List ℕ) (k : ℕ) : Type 0 where
@@ -21,4 +20,4 @@ pub record InterfaceSays (w : List ℕ) (at : ℕ) (ns : List ℕ) : Type 0 wher
   pub count : word_at w (at + 8) ≡ length ns / 3 - 1
   pub pipes : (j : ℕ) → j < length ns / 3 - 1 → PipeSays w (at + 12 + 12 * j) ns (3 + 3 * j)
   -- and the reader walks over it
-  pub walked : (most : ℕ) → interfaces_of w 1 most at ≡ End (at + 4 * length ns) (larger most (length ns / 3 - 1))
+  pub walked : (most : ℕ) → interfaces_of w 1 most at ≡ Ok ((at + 4 * length ns), (max most (length ns / 3 - 1)))

@@ -1,5 +1,5 @@
 -- What a theorem says of what is written: the reader finds in it the fields that were given, a part by its bytes and not by its place.
-use Rattle.std.specs.Prelude.{ℕ, ◌+◌, ◌*◌, ◌/◌, ◌<◌, ◌≡◌, List, [], ◌∷◌, Bool, true, false, cond, get_or, eqb}
+use Rattle.std.specs.Prelude.{ℕ, ◌+◌, ◌*◌, ◌/◌, ◌<◌, ◌≡◌, List, [], ◌∷◌, Bool, true, false, cond, get_or, eqb, Option, Some, None, Ok}
 use Rattle.words.specs.declared.layout.Part.{Part}
 use Rattle.answers.specs.declared.kind.Kind.{Kind}
 use Rattle.answers.specs.declared.kind.Kind.TheVariants as kind
@@ -10,18 +10,14 @@ use Rattle.urb.specs.declared.ts_urb.TsUrb.{TsUrb}
 use Rattle.urb.specs.declared.ts_urb.Urb.{Urb}
 use Rattle.urb.specs.declared.ts_urb.Urb.TheVariants as urb
 use Rattle.wire.specs.Message.{asks_with}
-use Rattle.wire.specs.Reading.{Body, Fits, capability_request_body, capability_response_body, channel_created_body, add_virtual_channel_body, add_device_body, cancel_request_body, register_request_callback_body, io_control_body, transfer_in_request_body, transfer_out_request_body, retract_device_body, io_control_completion_body, urb_completion_body, urb_completion_no_data_body, reading_of}
+use Rattle.wire.specs.Reading.{Body, capability_request_body, capability_response_body, channel_created_body, add_virtual_channel_body, add_device_body, cancel_request_body, register_request_callback_body, io_control_body, transfer_in_request_body, transfer_out_request_body, retract_device_body, io_control_completion_body, urb_completion_body, urb_completion_no_data_body, reading_of}
 use Rattle.pieces.specs.Pieces.{cut}
-use Rattle.writer.specs.declared.register_request_callback.RequestCompletion.{RequestCompletion}
-use Rattle.writer.specs.declared.register_request_callback.RequestCompletion.TheVariants as completion
 use Rattle.writer.specs.declared.ts_urb.Structure.{Structure}
 use Rattle.writer.specs.declared.ts_urb.Structure.TheVariants as structure
 use Rattle.writer.specs.declared.ts_urb.TsUrbFields.{TsUrbFields}
 use Rattle.writer.specs.declared.message.Fields.{Fields}
 use Rattle.writer.specs.declared.message.Fields.TheVariants.{CapabilityRequest, CapabilityResponse, ChannelCreatedByServer, ChannelCreatedByClient, AddVirtualChannel, AddDevice, RegisterRequestCallback, IoControl, InternalIoControl, TransferInRequest, TransferOutRequest, CancelRequest, RetractDevice, IoControlCompletion, UrbCompletion, UrbCompletionNoData}
 use Rattle.words.specs.Words.{word_at}
-use Rattle.header.specs.declared.ids.Known.{Known}
-use Rattle.header.specs.declared.ids.Known.TheVariants as known
 use Rattle.answers.specs.Phase.{phases_of}
 use Rattle.kinds.specs.Kinds.{client, server}
 use Rattle.channel.specs.declared.channel.Channel.{Channel}
@@ -47,9 +43,9 @@ kind_of (IoControlCompletion i b) = kind.IoControlCompletion
 kind_of (UrbCompletion i b) = kind.UrbCompletion
 kind_of (UrbCompletionNoData i b) = kind.UrbCompletionNoData
 
-abbrev pub completion_numbers : RequestCompletion → List ℕ
-completion_numbers completion.Nothing = []
-completion_numbers (completion.Is word) = word ∷ []
+abbrev pub completion_numbers : Option ℕ → List ℕ
+completion_numbers None = []
+completion_numbers (Some word) = word ∷ []
 
 abbrev pub structure_numbers : Structure → List ℕ
 structure_numbers (structure.SelectConfiguration b) = b.flag ∷ b.count ∷ []
@@ -139,9 +135,9 @@ found_urb_numbers t = t.function ∷ t.request.0 ∷ bit t.noack ∷ found_struc
 abbrev pub whole : InterfaceId → ℕ → ℕ
 whole id top = id.0 + 0x4000_0000 * top
 
-abbrev pub found_callback : Known → ℕ → List ℕ
-found_callback known.Nothing top = []
-found_callback (known.Is id) top = whole id top ∷ []
+abbrev pub found_callback : Option InterfaceId → ℕ → List ℕ
+found_callback None top = []
+found_callback (Some id) top = whole id top ∷ []
 
 -- i is the interface of the header
 abbrev pub found_numbers : ℕ → Body → List ℕ
@@ -189,7 +185,7 @@ found_parts m (urb_completion_no_data_body b) = cut m b.urb.rest ∷ []
 -- in what is written, w, the reader of the kind finds a body that no value rule refuses, and whose numbers and parts, and the MessageId before it, are those that were given
 pub record ReadBack (id : MessageId) (f : Fields) (s : List ℕ) (w : List ℕ) : Type 0 where
   pub body : Body
-  pub reads : reading_of (kind_of f) w ≡ Fits body
+  pub reads : reading_of (kind_of f) w ≡ Ok body
   pub asks : asks_some (asks_with body) ≡ true
   pub message : message_in (word_at w 4) ≡ id
   pub numbers : found_numbers (interface_in (word_at w 0)).0 body ≡ numbers_of f
@@ -215,8 +211,8 @@ side_of (UrbCompletion i b) = client
 side_of (UrbCompletionNoData i b) = client
 
 -- a channel knows the interface that a message goes to
-abbrev pub Knows : Known → ℕ → Type 0
-Knows k i = k ≡ known.Is (record { 0 = i })
+abbrev pub Knows : Option InterfaceId → ℕ → Type 0
+Knows k i = k ≡ Some (record { 0 = i })
 
 abbrev pub Goes : Channel → Fields → Type 0
 Goes c (CapabilityRequest b) = Unit {0}

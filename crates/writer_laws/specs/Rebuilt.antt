@@ -1,5 +1,5 @@
 -- What a theorem says of a message of a kind: written again from its fields it is the same bytes, padding excepted, which is 0.
-use Rattle.std.specs.Prelude.{ℕ, ◌+◌, ◌*◌, ◌-◌, ◌/◌, ◌≡◌, List, [], ◌∷◌, ◌++◌, Bool, true, false, cond, length, take, eqb}
+use Rattle.std.specs.Prelude.{ℕ, ◌+◌, ◌*◌, ◌-◌, ◌/◌, ◌≡◌, List, [], ◌∷◌, ◌++◌, Bool, true, false, cond, length, take, eqb, Result, Ok, Err}
 use Rattle.words.specs.Words.{word_at}
 use Rattle.header.specs.Ids.{message_in}
 use Rattle.answers.specs.declared.kind.Kind.{Kind}
@@ -7,13 +7,15 @@ use Rattle.answers.specs.declared.kind.Kind.TheVariants as kind
 use Rattle.urb.specs.TsUrb.{ts_urb_of}
 use Rattle.urb.specs.declared.ts_urb.Urb.{Urb}
 use Rattle.urb.specs.declared.ts_urb.Urb.TheVariants as urb
-use Rattle.urb.specs.declared.ts_urb.TsUrbRead.{TsUrbRead}
-use Rattle.urb.specs.declared.ts_urb.TsUrbRead.TheVariants as ts
-use Rattle.wire.specs.declared.message.Asked.{Asked}
-use Rattle.wire.specs.declared.message.Asked.TheVariants.{Fails, Value, Step, Device, Callback, IoControl, TransferIn, TransferOut, Cancel, Retract, IoCompletion, UrbCompletion, UrbCompletionNoData}
+use Rattle.wire.specs.declared.message.Asked.TheVariants.{Step, Device, Callback, IoControl, TransferIn, TransferOut, Cancel, Retract, IoCompletion, UrbCompletion, UrbCompletionNoData}
 use Rattle.writer.specs.Message.{given_in, pieces_of}
 use Rattle.fields.specs.Message.{fields_in}
 use Rattle.writer_laws.specs.Layout.{Field, none, empty, word, half, byte, run, interfaces, cuts_from, spans_of}
+use Rattle.words.specs.declared.layout.Fault.{Fault}
+use Rattle.urb.specs.declared.ts_urb.TsUrb.{TsUrb}
+use Rattle.wire.specs.declared.message.Asked.{Asked}
+use Rattle.wire.specs.declared.message.Unfit.{Unfit}
+use Rattle.wire.specs.declared.message.Unfit.TheVariants as unfit
 
 -- the layout of a message of a kind: its header, and its body as the files of the wire crate have it
 abbrev pub headed : List Field → List Field
@@ -30,9 +32,9 @@ structure_layout (urb.ControlTransfer b) = word ∷ word ∷ run 8 ∷ none ∷ 
 structure_layout (urb.IsochTransfer b) = word ∷ word ∷ word ∷ word ∷ word ∷ run b.list.size ∷ []
 structure_layout urb.Unknown = none ∷ none ∷ none ∷ none ∷ none ∷ none ∷ []
 
-abbrev pub urb_layout : TsUrbRead → List Field
-urb_layout (ts.Fits t last) = structure_layout t.urb
-urb_layout (ts.Fails fault) = none ∷ none ∷ none ∷ none ∷ none ∷ none ∷ []
+abbrev pub urb_layout : Result (TsUrb × ℕ) Fault → List Field
+urb_layout (Ok (t, last)) = structure_layout t.urb
+urb_layout (Err fault) = none ∷ none ∷ none ∷ none ∷ none ∷ none ∷ []
 
 -- CbTsUrb, Size and function, RequestId and NoAck, the structure, OutputBufferSize
 abbrev pub transfer_layout : List ℕ → List Field → List Field
@@ -77,20 +79,20 @@ layout_of kind.UrbCompletion m = completion_layout m (run (word_at m (20 + word_
 layout_of kind.UrbCompletionNoData m = completion_layout m (empty ∷ [])
 
 -- the message asks something: it is refused neither with 7 nor with 8 for what stands in it
-abbrev pub asks_some : Asked → Bool
-asks_some (Fails fault) = false
-asks_some Value = false
-asks_some Step = true
-asks_some (Device id ms) = true
-asks_some (Callback known) = true
-asks_some (IoControl r) = true
-asks_some (TransferIn r) = true
-asks_some (TransferOut r) = true
-asks_some (Cancel id) = true
-asks_some Retract = true
-asks_some (IoCompletion c) = true
-asks_some (UrbCompletion c) = true
-asks_some (UrbCompletionNoData c) = true
+abbrev pub asks_some : Result Asked Unfit → Bool
+asks_some (Err (unfit.Sizes fault)) = false
+asks_some (Err unfit.Value) = false
+asks_some (Ok Step) = true
+asks_some (Ok (Device id ms)) = true
+asks_some (Ok (Callback known)) = true
+asks_some (Ok (IoControl r)) = true
+asks_some (Ok (TransferIn r)) = true
+asks_some (Ok (TransferOut r)) = true
+asks_some (Ok (Cancel id)) = true
+asks_some (Ok Retract) = true
+asks_some (Ok (IoCompletion c)) = true
+asks_some (Ok (UrbCompletion c)) = true
+asks_some (Ok (UrbCompletionNoData c)) = true
 
 -- its fields are within their values, and its pieces are those that its layout cuts out of it, to its very end
 pub record Rebuilt (k : Kind) (m : List ℕ) : Type 0 where

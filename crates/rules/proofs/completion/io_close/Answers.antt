@@ -1,4 +1,4 @@
--- `rules::completion::io_close` meets its contract.
+-- `rules::completion::io_close` meets its contract. The two sizes are named, since a search would meet its bound where the code compares them wrongly.
 use borrow.Author.Tests.{lt-ltb}
 use Rattle.rules.proofs.completion.io_close.Goals as goal
 

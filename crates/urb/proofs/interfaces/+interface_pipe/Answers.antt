@@ -12,7 +12,7 @@ interface-returns-then-bytes-lt12 t c = rw (interfaces_step, ne_eqb _ _ c.if-lef
 
 pub interface-returns-then-length_agrees : goal.interface-returns-then-length_agrees
 interface-returns-then-length_agrees t c =
-    rw (interfaces_step, ne_eqb _ _ c.if-left-eq0.false, ← c.rest-bytes.ensures, le-ltb _ _ c.if-bytes-lt12.false, ← c.u32_at-pipes.ensures, ← c.u16_at.ensures, ← c.if-length_agrees.ensures, ← c.larger_of.ensures, ← c.pipe.ensures)
+    rw (interfaces_step, ne_eqb _ _ c.if-left-eq0.false, ← c.rest-bytes.ensures, le-ltb _ _ c.if-bytes-lt12.false, ← c.u32_at-pipes.ensures, ← c.u16_at.ensures, ← c.if-length_agrees.ensures, ← c.max.ensures, ← c.pipe.ensures)
 
 pub interface-returns-else-length_agrees : goal.interface-returns-else-length_agrees
 interface-returns-else-length_agrees t c =

@@ -4,4 +4,4 @@ use Rattle.urb.proofs.Walk.{interfaces_end}
 use Rattle.urb.proofs.select_configuration.read.Goals as goal
 
 pub configuration-requires : goal.configuration-requires
-configuration-requires c = (interfaces_end _ _ _ 32 _ _ (sym c.in-End.ensures)).0
+configuration-requires c = (interfaces_end _ _ _ 32 _ _ (sym c.in_ok-end.ensures)).0
