@@ -1,6 +1,7 @@
 -- 01's number of each kind.
-use Rattle.std.specs.Prelude.{ℕ}
+use Rattle.std.specs.Prelude.{ℕ, List, [], ◌∷◌, Result, eqb, find, ok_or}
 use Rattle.answers.specs.declared.kind.Kind.{Kind}
+use Rattle.answers.specs.declared.kind.NoKind.{NoKind}
 use Rattle.answers.specs.declared.kind.Kind.TheVariants.{CapabilityRequest, CapabilityResponse, ChannelCreatedByServer, ChannelCreatedByClient, AddVirtualChannel, AddDevice, CancelRequest, RegisterRequestCallback, IoControl, InternalIoControl, TransferInRequest, TransferOutRequest, RetractDevice, IoControlCompletion, UrbCompletion, UrbCompletionNoData}
 
 abbrev pub kind_number : Kind → ℕ
@@ -20,3 +21,15 @@ kind_number RetractDevice = 14
 kind_number IoControlCompletion = 15
 kind_number UrbCompletion = 16
 kind_number UrbCompletionNoData = 17
+
+-- the kinds by their numbers
+abbrev pub all_kinds : List Kind
+all_kinds =
+    CapabilityRequest ∷ CapabilityResponse ∷ ChannelCreatedByServer ∷ ChannelCreatedByClient ∷
+    AddVirtualChannel ∷ AddDevice ∷ RegisterRequestCallback ∷ IoControl ∷
+    InternalIoControl ∷ TransferInRequest ∷ TransferOutRequest ∷ CancelRequest ∷
+    RetractDevice ∷ IoControlCompletion ∷ UrbCompletion ∷ UrbCompletionNoData ∷ []
+
+-- the kind that has a number, if one has it
+abbrev pub kind_at : ℕ → Result Kind NoKind
+kind_at n = ok_or (find (λ kind. eqb (kind_number kind) n) all_kinds) (record {})

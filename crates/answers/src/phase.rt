@@ -14,10 +14,7 @@ pub struct Phases {
 fn from_to(before: u8, after: u8) -> Phases
     ensures { result ≡ record { before = before; after = after } }
 {
-    Phases {
-        before: before,
-        after: after,
-    }
+    Phases { before, after }
 }
 
 pub fn of(kind: Kind) -> Phases

@@ -20,7 +20,7 @@ pub(crate) fn asked(t: Table) -> Table {
 // With four bytes of input.
 fn request(code: u32, id: u8) -> IoControl {
     IoControl {
-        code: code,
+        code,
         input: Part { start: 0, size: 4 },
         size: 4,
         request: ids::request(id),

@@ -19,42 +19,28 @@ use writer::ts_urb::{
 };
 use writer::urb_completion::{UrbCompletionFields, UrbCompletionNoDataFields, UrbResultFields};
 
-const NOTHING: Part = Part { start: 0, size: 0 };
-
 fn urb(function: u32, id: u8, noack: bool, structure: Structure) -> TsUrbFields {
     TsUrbFields {
-        function: function,
+        function,
         request: ids::request(id),
-        noack: noack,
-        structure: structure,
+        noack,
+        structure,
     }
 }
 
 fn transfer_in(urb: TsUrbFields, size: u32) -> Fields {
-    Fields::TransferInRequest(
-        ids::DEVICE,
-        TransferInFields {
-            urb: urb,
-            size: size,
-        },
-    )
+    Fields::TransferInRequest(ids::DEVICE, TransferInFields { urb, size })
 }
 
 fn transfer_out(urb: TsUrbFields, output: Part) -> Fields {
-    Fields::TransferOutRequest(
-        ids::DEVICE,
-        TransferOutFields {
-            urb: urb,
-            output: output,
-        },
-    )
+    Fields::TransferOutRequest(ids::DEVICE, TransferOutFields { urb, output })
 }
 
 fn result(id: u8, rest: Part) -> UrbResultFields {
     UrbResultFields {
         request: ids::request(id),
         status: 0,
-        rest: rest,
+        rest,
         result: 0,
     }
 }
@@ -64,7 +50,7 @@ fn done(id: u8, rest: Part, size: u32) -> Fields {
         ids::CALLBACK,
         UrbCompletionNoDataFields {
             urb: result(id, rest),
-            size: size,
+            size,
         },
     )
 }
@@ -90,7 +76,7 @@ pub(crate) fn configured(t: Table) -> Table {
     });
     let u = urb(SelectConfiguration::FUNCTION, 1, false, structure);
     let asked = server(t, transfer_in(u, 0), &lent);
-    let chosen = client(asked, done(1, NOTHING, 0), b"");
+    let chosen = client(asked, done(1, Part::EMPTY, 0), b"");
     set(chosen)
 }
 
@@ -103,7 +89,7 @@ fn set(t: Table) -> Table {
     });
     let u = urb(SelectInterface::FUNCTION, 2, false, structure);
     let asked = server(t, transfer_in(u, 0), &lent);
-    client(asked, done(2, NOTHING, 0), b"")
+    client(asked, done(2, Part::EMPTY, 0), b"")
 }
 
 pub(crate) fn moved(t: Table) -> Table {
@@ -122,7 +108,7 @@ fn control(t: Table) -> Table {
     let u = urb(ControlTransfer::FUNCTION, 5, false, structure);
     let asked = server(t, transfer_in(u, 18), &bytes::SETUP);
     let descriptor = UrbCompletionFields {
-        urb: result(5, NOTHING),
+        urb: result(5, Part::EMPTY),
         output: Part { start: 8, size: 18 },
     };
     client(
@@ -141,7 +127,7 @@ fn bulk(t: Table) -> Table {
     let u = urb(BulkOrInterruptTransfer::FUNCTION, 6, false, structure);
     let command = transfer_out(u, Part { start: 0, size: 31 });
     let asked = server(t, command, &bytes::COMMAND);
-    client(asked, done(6, NOTHING, 31), b"")
+    client(asked, done(6, Part::EMPTY, 31), b"")
 }
 
 // Packets go out with NoAck: nothing is to come back.
@@ -183,7 +169,7 @@ pub(crate) fn stopped(t: Table) -> Table {
         request: ids::request(9),
     };
     let cancelled = server(reading, Fields::CancelRequest(ids::DEVICE, cancel), b"");
-    let late = client(cancelled, done(9, NOTHING, 0), b"");
+    let late = client(cancelled, done(9, Part::EMPTY, 0), b"");
     server(late, transfer_in(abort(10), 0), b"")
 }
 

@@ -62,7 +62,7 @@ fn of_device(device: u32, ms: u32) {
     io::write_all(1, b" fits");
     named(b" device", device);
     named(b" ms", ms);
-    payload(Part { start: 0, size: 0 });
+    payload(Part::EMPTY);
 }
 
 fn of_callback(callback: Option<InterfaceId>) {
@@ -73,7 +73,7 @@ fn of_callback(callback: Option<InterfaceId>) {
         }
         Some(id) => named(b" callback", id.number()),
     }
-    payload(Part { start: 0, size: 0 });
+    payload(Part::EMPTY);
 }
 
 fn of_request(r: Request) {
@@ -98,7 +98,7 @@ fn of_io_completion(c: IoCompleted) {
 fn of_cancel(request: RequestId) {
     io::write_all(1, b" fits");
     named(b" request", request.number());
-    payload(Part { start: 0, size: 0 });
+    payload(Part::EMPTY);
 }
 
 fn of_urb_completion(c: UrbCompleted) {
@@ -110,7 +110,7 @@ fn of_urb_completion(c: UrbCompleted) {
 
 fn plain() {
     io::write_all(1, b" fits");
-    payload(Part { start: 0, size: 0 });
+    payload(Part::EMPTY);
 }
 
 fn payload(part: Part) {

@@ -27,10 +27,7 @@ const ROWS: [Row; 7] = [
 fn speed_suits_bus(c: DeviceCapabilities) -> bool
     ensures { result ≡ speed_suits_bus c.bus c.speed }
 {
-    if c.bus != 0 {
-        return true;
-    }
-    c.speed == 0
+    c.bus != 0 || c.speed == 0
 }
 
 #[derive(Clone, Copy)]
@@ -101,10 +98,7 @@ fn word(m: &[u8], at: usize, k: usize) -> u32
 pub fn allowed(c: DeviceCapabilities) -> bool
     ensures { result ≡ capabilities_allowed c }
 {
-    if !rows_allow(c) {
-        return false;
-    }
-    speed_suits_bus(c)
+    rows_allow(c) && speed_suits_bus(c)
 }
 
 fn rows_allow(c: DeviceCapabilities) -> bool

@@ -44,10 +44,10 @@ pub(crate) fn read(m: &[u8]) -> AddDeviceFields
     AddDeviceFields {
         count: u32_at(m, 12),
         device: u32_at(m, 16),
-        instance: instance,
-        hardware: hardware,
-        compatible: compatible,
-        container: container,
+        instance,
+        hardware,
+        compatible,
+        container,
         capabilities: capabilities(m, container.start + container.size),
     }
 }

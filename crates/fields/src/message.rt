@@ -48,10 +48,7 @@ fn io_control(m: &[u8]) -> IoControl
     let e = 20 + size;
     IoControl {
         code: u32_at(m, 12),
-        input: Part {
-            start: 20,
-            size: size,
-        },
+        input: Part { start: 20, size },
         size: u32_at(m, e),
         request: RequestId::read(m, e + 4),
     }

@@ -10,13 +10,10 @@ ghost use Rattle.std.specs.Prelude.{◌<◌, ◌≤◌};
 
 use channel::channel::Channel;
 use channel::row::{Open, Row, Sort};
+use kinds::kind::Side;
 use table::table::Table;
 
 mod messages;
-
-const SERVER: u8 = 1;
-
-const CLIENT: u8 = 2;
 
 fn main() {
     let new = table::table::open(1);
@@ -44,7 +41,7 @@ fn limits() {
     let refused = long(longest, 0xE4, 65536);
     request(refused, 1);
     let never = table::table::open(0);
-    call(never, SERVER, &messages::CAPABILITY_REQUEST);
+    call(never, Side::Server, &messages::CAPABILITY_REQUEST);
 }
 
 // An IO control of so many bytes, of which 28 are not input; the second byte of its InputBufferSize is 0xFF, and this is the first.
@@ -59,17 +56,17 @@ fn long(t: Table, input: u8, size: usize) -> Table
     m[9] = 0x01;
     m[16] = input;
     m[17] = 0xFF;
-    call(t, SERVER, &m[..size])
+    call(t, Side::Server, &m[..size])
 }
 
 // From phase 0 to a device with a callback.
 fn session(t: Table) -> Table {
-    let capabilities = call(t, SERVER, &messages::CAPABILITY_REQUEST);
-    let answered = call(capabilities, CLIENT, &messages::CAPABILITY_RESPONSE);
-    let created = call(answered, SERVER, &messages::CHANNEL_CREATED_BY_SERVER);
-    let both = call(created, CLIENT, &messages::CHANNEL_CREATED_BY_CLIENT);
-    let added = call(both, CLIENT, &messages::ADD_DEVICE);
-    call(added, SERVER, &messages::REGISTER_REQUEST_CALLBACK)
+    let capabilities = call(t, Side::Server, &messages::CAPABILITY_REQUEST);
+    let answered = call(capabilities, Side::Client, &messages::CAPABILITY_RESPONSE);
+    let created = call(answered, Side::Server, &messages::CHANNEL_CREATED_BY_SERVER);
+    let both = call(created, Side::Client, &messages::CHANNEL_CREATED_BY_CLIENT);
+    let added = call(both, Side::Client, &messages::ADD_DEVICE);
+    call(added, Side::Server, &messages::REGISTER_REQUEST_CALLBACK)
 }
 
 // Requests 0 to 15.
@@ -82,19 +79,19 @@ fn fill(t: Table) -> Table {
 }
 
 fn request(t: Table, id: u8) -> Table {
-    with_id(t, SERVER, messages::IO_CONTROL, 24, id)
+    with_id(t, Side::Server, messages::IO_CONTROL, 24, id)
 }
 
 fn cancel(t: Table, id: u8) -> Table {
-    with_id(t, SERVER, messages::CANCEL_REQUEST, 12, id)
+    with_id(t, Side::Server, messages::CANCEL_REQUEST, 12, id)
 }
 
 fn complete(t: Table, id: u8) -> Table {
-    with_id(t, CLIENT, messages::IO_CONTROL_COMPLETION, 12, id)
+    with_id(t, Side::Client, messages::IO_CONTROL_COMPLETION, 12, id)
 }
 
 // A message whose RequestId has this as its first byte.
-fn with_id<const N: usize>(t: Table, side: u8, message: [u8; N], at: usize, id: u8) -> Table
+fn with_id<const N: usize>(t: Table, side: Side, message: [u8; N], at: usize, id: u8) -> Table
     requires { at < N }
 {
     let mut m = message;
@@ -103,8 +100,8 @@ fn with_id<const N: usize>(t: Table, side: u8, message: [u8; N], at: usize, id: 
 }
 
 // Judges a message on channel 0, and says what came of it.
-fn call(t: Table, side: u8, m: &[u8]) -> Table {
-    let j = table::table::judge(t, 0, side, 0, m);
+fn call(t: Table, side: Side, m: &[u8]) -> Table {
+    let j = table::table::judge(t, 0, u8::from(side), 0, m);
     let after = j.table;
     io::print_decimal(1, u64::from(u8::from(j.answer)));
     io::write_all(1, b" ");

@@ -1,4 +1,5 @@
 // The messages of the session, byte by byte as 000 lays them out.
+
 // Kind 1 (000 2.2.3.1).
 pub(crate) const CAPABILITY_REQUEST: [u8; 16] =
     *b"\x00\x00\x00\x00\x01\x00\x00\x00\x00\x01\x00\x00\x01\x00\x00\x00";

@@ -1,17 +1,16 @@
 // Three numbers of the protocol that may never stand in for one another (01 "The gate's duties").
 //
-// Their fields are private, and each is made only by a reader, out of four bytes of a message at a place (docs/DECISIONS.md, 14). What a number is wanted of one for says so by `number`: a `From`
-// would let any of them go where a number is taken.
+// Their fields are private, and each is made only by a reader, out of four bytes of a message at a place (docs/DECISIONS.md, 14). `number` and no `From`: the name says what is wanted of an id.
 ghost use Rattle.std.specs.Prelude.{◌≡◌};
 ghost use Rattle.words.specs.Words.{word_at};
 ghost use Rattle.header.specs.Ids.{assignable, interface_in, mask_in, message_in, request_in, urb_request_in, no_ack_in};
 
 use words::numbers::u32_at;
 
-#[derive(Clone, Copy, PartialEq, Eq)]
+#[derive(Clone, Copy)]
 pub struct InterfaceId(u32);
 
-#[derive(Clone, Copy, PartialEq, Eq)]
+#[derive(Clone, Copy)]
 pub struct MessageId(u32);
 
 #[derive(Clone, Copy, PartialEq, Eq)]

@@ -1,10 +1,13 @@
 -- 01 "Header and kinds": the table of kinds, and the kind of a message.
-use Rattle.std.specs.Prelude.{ℕ, List, [], ◌∷◌, Bool, false, cond, ◌&&◌, eqb, Option, Some, None}
+use Rattle.std.specs.Prelude.{ℕ, List, [], ◌∷◌, Bool, false, cond, ◌&&◌, eqb, Option, Some, None, Result, Ok, Err}
 use Rattle.header.specs.declared.shared_msg_header.Header.{Header}
 use Rattle.answers.specs.declared.kind.Kind.{Kind}
 use Rattle.answers.specs.declared.kind.Kind.TheVariants.{CapabilityRequest, CapabilityResponse, ChannelCreatedByServer, ChannelCreatedByClient, AddVirtualChannel, AddDevice, CancelRequest, RegisterRequestCallback, IoControl, InternalIoControl, TransferInRequest, TransferOutRequest, RetractDevice, IoControlCompletion, UrbCompletion, UrbCompletionNoData}
 use Rattle.header.specs.declared.ids.InterfaceId.{InterfaceId}
 use Rattle.kinds.specs.declared.kind.Row.{Row}
+use Rattle.kinds.specs.declared.kind.Side.{Side}
+use Rattle.kinds.specs.declared.kind.Side.TheVariants.{Server, Client}
+use Rattle.kinds.specs.declared.kind.NoSide.{NoSide}
 use Rattle.kinds.specs.declared.kind.Goes.{Goes}
 use Rattle.kinds.specs.declared.kind.Goes.TheVariants as goes
 
@@ -20,6 +23,21 @@ abbrev pub calls_known : Header → ℕ → Option InterfaceId → ℕ → ℕ �
 calls_known h side None by mask function = false
 calls_known h side (Some id) by mask function = calls_at h side id.0 by mask function
 
+-- 01 "Journal": side 1 is the server, 2 the client
+abbrev pub server : ℕ
+server = 1
+
+abbrev pub client : ℕ
+client = 2
+
+abbrev pub side_number : Side → ℕ
+side_number Server = server
+side_number Client = client
+
+-- the side of a number, if it is one's
+abbrev pub side_of : ℕ → Result Side NoSide
+side_of n = cond (eqb n server) (Ok Server) (cond (eqb n client) (Ok Client) (Err (record {})))
+
 abbrev pub fits_by : Goes → ℕ → ℕ → Header → ℕ → Option InterfaceId → Option InterfaceId → Bool
 fits_by (goes.Default interface function) by mask h side d c = calls_at h side interface by mask function
 fits_by (goes.Nameless interface) by mask h side d c = goes_to h side interface by mask
@@ -28,63 +46,56 @@ fits_by (goes.Callback function) by mask h side d c = calls_known h side c by ma
 
 -- whether a message fits a row, on a channel that knows a device d and a callback c
 abbrev pub fits : Row → Header → ℕ → Option InterfaceId → Option InterfaceId → Bool
-fits row h side d c = fits_by row.goes row.by row.mask h side d c
-
--- 01 "Journal": side 1 is the server, 2 the client
-abbrev pub server : ℕ
-server = 1
-
-abbrev pub client : ℕ
-client = 2
+fits row h side d c = fits_by row.goes (side_number row.by) row.mask h side d c
 
 -- 01's table. Mask is 1 except for kinds 1 and 2, where it is 0
 abbrev pub capability_request : Row
-capability_request = record { kind = CapabilityRequest; by = server; mask = 0; goes = goes.Default 0 0x100 }
+capability_request = record { kind = CapabilityRequest; by = Server; mask = 0; goes = goes.Default 0 0x100 }
 
 abbrev pub capability_response : Row
-capability_response = record { kind = CapabilityResponse; by = client; mask = 0; goes = goes.Nameless 0 }
+capability_response = record { kind = CapabilityResponse; by = Client; mask = 0; goes = goes.Nameless 0 }
 
 abbrev pub channel_created_by_server : Row
-channel_created_by_server = record { kind = ChannelCreatedByServer; by = server; mask = 1; goes = goes.Default 3 0x100 }
+channel_created_by_server = record { kind = ChannelCreatedByServer; by = Server; mask = 1; goes = goes.Default 3 0x100 }
 
 abbrev pub channel_created_by_client : Row
-channel_created_by_client = record { kind = ChannelCreatedByClient; by = client; mask = 1; goes = goes.Default 2 0x100 }
+channel_created_by_client = record { kind = ChannelCreatedByClient; by = Client; mask = 1; goes = goes.Default 2 0x100 }
 
 abbrev pub add_virtual_channel : Row
-add_virtual_channel = record { kind = AddVirtualChannel; by = client; mask = 1; goes = goes.Default 1 0x100 }
+add_virtual_channel = record { kind = AddVirtualChannel; by = Client; mask = 1; goes = goes.Default 1 0x100 }
 
 abbrev pub add_device : Row
-add_device = record { kind = AddDevice; by = client; mask = 1; goes = goes.Default 1 0x101 }
+add_device = record { kind = AddDevice; by = Client; mask = 1; goes = goes.Default 1 0x101 }
 
 abbrev pub cancel_request : Row
-cancel_request = record { kind = CancelRequest; by = server; mask = 1; goes = goes.Device 0x100 }
+cancel_request = record { kind = CancelRequest; by = Server; mask = 1; goes = goes.Device 0x100 }
 
 abbrev pub register_request_callback : Row
-register_request_callback = record { kind = RegisterRequestCallback; by = server; mask = 1; goes = goes.Device 0x101 }
+register_request_callback = record { kind = RegisterRequestCallback; by = Server; mask = 1; goes = goes.Device 0x101 }
 
 abbrev pub io_control : Row
-io_control = record { kind = IoControl; by = server; mask = 1; goes = goes.Device 0x102 }
+io_control = record { kind = IoControl; by = Server; mask = 1; goes = goes.Device 0x102 }
 
 abbrev pub internal_io_control : Row
-internal_io_control = record { kind = InternalIoControl; by = server; mask = 1; goes = goes.Device 0x103 }
+internal_io_control = record { kind = InternalIoControl; by = Server; mask = 1; goes = goes.Device 0x103 }
 
 abbrev pub transfer_in_request : Row
-transfer_in_request = record { kind = TransferInRequest; by = server; mask = 1; goes = goes.Device 0x105 }
+transfer_in_request = record { kind = TransferInRequest; by = Server; mask = 1; goes = goes.Device 0x105 }
 
 abbrev pub transfer_out_request : Row
-transfer_out_request = record { kind = TransferOutRequest; by = server; mask = 1; goes = goes.Device 0x106 }
+transfer_out_request = record { kind = TransferOutRequest; by = Server; mask = 1; goes = goes.Device 0x106 }
 
 abbrev pub retract_device : Row
-retract_device = record { kind = RetractDevice; by = server; mask = 1; goes = goes.Device 0x107 }
+retract_device = record { kind = RetractDevice; by = Server; mask = 1; goes = goes.Device 0x107 }
 
 abbrev pub io_control_completion : Row
-io_control_completion = record { kind = IoControlCompletion; by = client; mask = 1; goes = goes.Callback 0x100 }
+io_control_completion = record { kind = IoControlCompletion; by = Client; mask = 1; goes = goes.Callback 0x100 }
 
 abbrev pub urb_completion : Row
-urb_completion = record { kind = UrbCompletion; by = client; mask = 1; goes = goes.Callback 0x101 }
+urb_completion = record { kind = UrbCompletion; by = Client; mask = 1; goes = goes.Callback 0x101 }
 
 abbrev pub urb_completion_no_data : Row
-urb_completion_no_data = record { kind = UrbCompletionNoData; by = client; mask = 1; goes = goes.Callback 0x102 }
+urb_completion_no_data = record { kind = UrbCompletionNoData; by = Client; mask = 1; goes = goes.Callback 0x102 }
 
 -- its rows in its order, of which the first that fits is the kind
 abbrev pub kinds : List Row

@@ -1,6 +1,6 @@
 // The kind of a message, by 01's table "Header and kinds": the first row that fits.
 ghost use Rattle.std.specs.Prelude.{◌≡◌, find, option_copied, option_map};
-ghost use Rattle.kinds.specs.Kinds.{goes_to, calls_at, calls_known, fits, first_fitting, kinds};
+ghost use Rattle.kinds.specs.Kinds.{goes_to, calls_at, calls_known, fits, first_fitting, kinds, side_number, side_of};
 
 use answers::kind::Kind;
 use header::ids::InterfaceId;
@@ -21,13 +21,37 @@ use wire::transfer_out_request::TransferOutRequest;
 use wire::urb_completion::UrbCompletion;
 use wire::urb_completion_no_data::UrbCompletionNoData;
 
+// The sides that send messages (01 "Journal").
 #[derive(Clone, Copy)]
-pub struct Side {}
+pub enum Side {
+    Server = 1,
+    Client = 2,
+}
 
-impl Side {
-    pub const SERVER: u8 = 1;
+// A number that is no side's.
+#[derive(Clone, Copy)]
+pub struct NoSide {}
 
-    pub const CLIENT: u8 = 2;
+impl From<Side> for u8 {
+    ghost from_gives = { λ side n. n ≡ side_number side };
+
+    fn from(side: Side) -> u8 {
+        side as u8
+    }
+}
+
+impl TryFrom<u8> for Side {
+    type Error = NoSide;
+
+    ghost try_from_gives = { λ n r. r ≡ side_of n };
+
+    fn try_from(number: u8) -> Result<Side, NoSide> {
+        match number {
+            1 => Ok(Side::Server),
+            2 => Ok(Side::Client),
+            _ => Err(NoSide {}),
+        }
+    }
 }
 
 // Where a kind's messages go: to a default interface, with a function or with none; to the device; to the callback.
@@ -43,8 +67,7 @@ pub enum Goes {
 #[derive(Clone, Copy)]
 pub struct Row {
     pub kind: Kind,
-    // a number, as the side that a call gives is any
-    pub by: u8,
+    pub by: Side,
     pub mask: u32,
     pub goes: Goes,
 }
@@ -53,19 +76,19 @@ pub struct Row {
 const KINDS: [Row; 16] = [
     Row {
         kind: Kind::CapabilityRequest,
-        by: Side::SERVER,
+        by: Side::Server,
         mask: CapabilityRequest::MASK,
         goes: Goes::Default(CapabilityRequest::INTERFACE, CapabilityRequest::FUNCTION),
     },
     Row {
         kind: Kind::CapabilityResponse,
-        by: Side::CLIENT,
+        by: Side::Client,
         mask: CapabilityResponse::MASK,
         goes: Goes::Nameless(CapabilityResponse::INTERFACE),
     },
     Row {
         kind: Kind::ChannelCreatedByServer,
-        by: Side::SERVER,
+        by: Side::Server,
         mask: ChannelCreated::MASK,
         goes: Goes::Default(
             ChannelCreated::INTERFACE_BY_SERVER,
@@ -74,7 +97,7 @@ const KINDS: [Row; 16] = [
     },
     Row {
         kind: Kind::ChannelCreatedByClient,
-        by: Side::CLIENT,
+        by: Side::Client,
         mask: ChannelCreated::MASK,
         goes: Goes::Default(
             ChannelCreated::INTERFACE_BY_CLIENT,
@@ -83,79 +106,79 @@ const KINDS: [Row; 16] = [
     },
     Row {
         kind: Kind::AddVirtualChannel,
-        by: Side::CLIENT,
+        by: Side::Client,
         mask: AddVirtualChannel::MASK,
         goes: Goes::Default(AddVirtualChannel::INTERFACE, AddVirtualChannel::FUNCTION),
     },
     Row {
         kind: Kind::AddDevice,
-        by: Side::CLIENT,
+        by: Side::Client,
         mask: AddDevice::MASK,
         goes: Goes::Default(AddDevice::INTERFACE, AddDevice::FUNCTION),
     },
     Row {
         kind: Kind::CancelRequest,
-        by: Side::SERVER,
+        by: Side::Server,
         mask: CancelRequest::MASK,
         goes: Goes::Device(CancelRequest::FUNCTION),
     },
     Row {
         kind: Kind::RegisterRequestCallback,
-        by: Side::SERVER,
+        by: Side::Server,
         mask: RegisterRequestCallback::MASK,
         goes: Goes::Device(RegisterRequestCallback::FUNCTION),
     },
     Row {
         kind: Kind::IoControl,
-        by: Side::SERVER,
+        by: Side::Server,
         mask: IoControl::MASK,
         goes: Goes::Device(IoControl::FUNCTION),
     },
     Row {
         kind: Kind::InternalIoControl,
-        by: Side::SERVER,
+        by: Side::Server,
         mask: InternalIoControl::MASK,
         goes: Goes::Device(InternalIoControl::FUNCTION),
     },
     Row {
         kind: Kind::TransferInRequest,
-        by: Side::SERVER,
+        by: Side::Server,
         mask: TransferInRequest::MASK,
         goes: Goes::Device(TransferInRequest::FUNCTION),
     },
     Row {
         kind: Kind::TransferOutRequest,
-        by: Side::SERVER,
+        by: Side::Server,
         mask: TransferOutRequest::MASK,
         goes: Goes::Device(TransferOutRequest::FUNCTION),
     },
     Row {
         kind: Kind::RetractDevice,
-        by: Side::SERVER,
+        by: Side::Server,
         mask: RetractDevice::MASK,
         goes: Goes::Device(RetractDevice::FUNCTION),
     },
     Row {
         kind: Kind::IoControlCompletion,
-        by: Side::CLIENT,
+        by: Side::Client,
         mask: IoControlCompletion::MASK,
         goes: Goes::Callback(IoControlCompletion::FUNCTION),
     },
     Row {
         kind: Kind::UrbCompletion,
-        by: Side::CLIENT,
+        by: Side::Client,
         mask: UrbCompletion::MASK,
         goes: Goes::Callback(UrbCompletion::FUNCTION),
     },
     Row {
         kind: Kind::UrbCompletionNoData,
-        by: Side::CLIENT,
+        by: Side::Client,
         mask: UrbCompletionNoData::MASK,
         goes: Goes::Callback(UrbCompletionNoData::FUNCTION),
     },
 ];
 
-// What is asked of a row: a message's header and side, and the interfaces that its channel has learnt.
+// What is asked of a row: a message's header and side, any that a call gives, and the interfaces that its channel has learnt.
 #[derive(Clone, Copy)]
 struct Sent {
     header: Header,
@@ -167,21 +190,23 @@ struct Sent {
 impl Row {
     // Whether a message goes to an interface, by the side and with the mask of the row.
     fn goes_to(self, m: Sent, interface: u32) -> bool
-        ensures { result ≡ goes_to m.header m.side interface self.by self.mask }
+        ensures { result ≡ goes_to m.header m.side interface (side_number self.by) self.mask }
     {
-        m.header.interface.number() == interface && m.side == self.by && m.header.mask == self.mask
+        m.header.interface.number() == interface
+            && m.side == u8::from(self.by)
+            && m.header.mask == self.mask
     }
 
     // Whether it calls a function there.
     fn calls(self, m: Sent, interface: u32, function: u32) -> bool
-        ensures { result ≡ calls_at m.header m.side interface self.by self.mask function }
+        ensures { result ≡ calls_at m.header m.side interface (side_number self.by) self.mask function }
     {
         self.goes_to(m, interface) && m.header.function == function
     }
 
     // The same where the interface is one that the channel has learnt, or has not.
     fn calls_known(self, m: Sent, known: Option<InterfaceId>, function: u32) -> bool
-        ensures { result ≡ calls_known m.header m.side known self.by self.mask function }
+        ensures { result ≡ calls_known m.header m.side known (side_number self.by) self.mask function }
     {
         match known {
             None => false,

@@ -8,13 +8,11 @@ use table::table::Table;
 use turn::step;
 use words::layout::Part;
 
-const NOTHING: Part = Part { start: 0, size: 0 };
-
 fn of_verdict(verdict: Result<Accepted, Refusal>) -> Part
     ensures { result ≡ shown_by verdict }
 {
     match verdict {
-        Err(_) => NOTHING,
+        Err(_) => Part::EMPTY,
         Ok(a) => a.payload,
     }
 }
@@ -25,7 +23,7 @@ fn shown(table: Table, channel: u8, side: u8, m: &[u8]) -> Part
     ensures { result ≡ shown_of table channel side m.now }
 {
     if used_up(table.next) || no_place(channel, side) {
-        return NOTHING;
+        return Part::EMPTY;
     }
     let c = table.channels[channel as usize];
     of_verdict(step::judge(c, table.next, side, m))

@@ -2,7 +2,7 @@
 // others, or beside padding, with which it makes up four.
 ghost use Rattle.std.specs.Prelude.{◌≡◌, ◌++◌, true, ◌+◌, ◌*◌, ◌/◌, ◌≤◌, length, Some};
 ghost use Rattle.words.specs.Written.{written, word_bytes};
-ghost use Rattle.pieces.specs.Pieces.{buffer_of, bytes_of, cut, encode, rows_from, lies_in, piece_lies, row_bytes, row_of, size_of, total_from, written_number, written_of};
+ghost use Rattle.pieces.specs.Pieces.{buffer_of, bytes_of, cut, encode, rows_from, lies_in, piece_lies, row_of, size_of, total_from, written_number, written_of};
 
 use words::layout::Part;
 use words::numbers::{u16_at, u32_at};
@@ -19,12 +19,12 @@ pub enum Piece {
 }
 
 // Why a writer writes nothing.
-#[derive(Clone, Copy, PartialEq, Eq)]
+#[derive(Clone, Copy)]
 pub enum Unwritten {
     // a field outside its values, or a message over 65,535 bytes
-    Value,
+    Value = 15,
     // the buffer is shorter than the message
-    Room,
+    Room = 16,
 }
 
 // A row of an interface list as its three words, and how many pipes are to come behind it.
@@ -48,8 +48,7 @@ pub fn number(written: Result<usize, Unwritten>) -> u32
 {
     match written {
         Ok(_) => 0,
-        Err(Unwritten::Value) => 15,
-        Err(Unwritten::Room) => 16,
+        Err(why) => why as u32,
     }
 }
 

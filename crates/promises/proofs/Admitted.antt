@@ -6,7 +6,6 @@ use lib.ListN.{length}
 use lib.Dec.{eqb, ltb}
 use Rattle.words.proofs.Steps.{either}
 use Rattle.header.specs.Header.{header_of}
-use Rattle.answers.specs.Kind.{kind_number}
 use Rattle.answers.specs.declared.kind.Kind.{Kind}
 use Rattle.wire.specs.Message.{asked_of}
 use Rattle.kinds.specs.Kinds.{first_fitting, kinds}
@@ -17,8 +16,8 @@ use Rattle.header.specs.declared.shared_msg_header.Header.{Header}
 use Rattle.header.specs.declared.ids.InterfaceId.{InterfaceId}
 use Rattle.rules.specs.Verdict.{refusal_of}
 
-module _ (P : Admitted → Type 0) (m : List ℕ) (short : P (Err (refusal_of 0 Short))) (long : P (Err (refusal_of 0 Long))) (no_kind : P (Err (refusal_of 0 NoKind)))
-    (phase : (k : Kind) → P (Err (refusal_of (kind_number k) WrongPhase))) (asks : (k : Kind) → P (Ok (k, (asked_of k m)))) where
+module _ (P : Admitted → Type 0) (m : List ℕ) (short : P (Err (refusal_of None Short))) (long : P (Err (refusal_of None Long))) (no_kind : P (Err (refusal_of None NoKind)))
+    (phase : (k : Kind) → P (Err (refusal_of (Some k) WrongPhase))) (asks : (k : Kind) → P (Ok (k, (asked_of k m)))) where
   as_has : (ph : ℕ) (k : Option Kind) → P (asks_as ph k m)
   unfolding asks_in
   as_has ph None = no_kind

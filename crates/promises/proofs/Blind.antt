@@ -10,7 +10,6 @@ use lib.ListN.{length}
 use lib.Dec.{eqb, ltb}
 use borrow.Author.Tests.{ltb-true, ltb-false}
 use Rattle.header.specs.Header.{header_of}
-use Rattle.answers.specs.Kind.{kind_number}
 use Rattle.words.specs.Words.{byte_at}
 use Rattle.answers.specs.declared.kind.Kind.{Kind}
 use Rattle.words.specs.declared.layout.Part.{Part}
@@ -94,7 +93,7 @@ module _ (m n : List ℕ) (ph : ℕ) (d b : Option InterfaceId) (side : ℕ) (l 
   in_phase None q = absurd (subst Asking (sym q) tt)
   in_phase (Some j) q = go (eqb (phases_of j).before ph) q
     where
-      go : (t : Bool) → cond {A = Admitted} t (Ok (j, (asked_of j m))) (Err (refusal_of (kind_number j) WrongPhase)) ≡ Ok (k, a) → cond {A = Admitted} t (Ok (j, (asked_of j n))) (Err (refusal_of (kind_number j) WrongPhase)) ≡ Ok (k, (asked_of k n))
+      go : (t : Bool) → cond {A = Admitted} t (Ok (j, (asked_of j m))) (Err (refusal_of (Some j) WrongPhase)) ≡ Ok (k, a) → cond {A = Admitted} t (Ok (j, (asked_of j n))) (Err (refusal_of (Some j) WrongPhase)) ≡ Ok (k, (asked_of k n))
       go true r = ap (λ (i : Kind). Ok (i, (asked_of i n))) (ap (kind_in k) r)
       go false r = absurd (subst Asking (sym r) tt)
 
@@ -102,7 +101,7 @@ module _ (m n : List ℕ) (ph : ℕ) (d b : Option InterfaceId) (side : ℕ) (l 
   unfolding admitted from_header
   carried q = ap (λ h. from_head ph d b side h n) e ∙ go (header_of m) q
     where
-      long : (h : _) (t : Bool) → cond t (Err (refusal_of 0 Long)) (asks_as ph (first_fitting kinds h side d b) m) ≡ Ok (k, a) → cond t (Err (refusal_of 0 Long)) (asks_as ph (first_fitting kinds h side d b) n) ≡ Ok (k, (asked_of k n))
+      long : (h : _) (t : Bool) → cond t (Err (refusal_of None Long)) (asks_as ph (first_fitting kinds h side d b) m) ≡ Ok (k, a) → cond t (Err (refusal_of None Long)) (asks_as ph (first_fitting kinds h side d b) n) ≡ Ok (k, (asked_of k n))
       long h true r = absurd (subst Asking (sym r) tt)
       long h false r = in_phase (first_fitting kinds h side d b) r
 

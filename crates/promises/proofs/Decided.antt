@@ -7,7 +7,6 @@ use mathlib.Core.Path.{◌≡◌, refl}
 use mathlib.Core.Bool.{false}
 use lib.Dec.{eqb, ltb}
 use Rattle.words.proofs.Steps.{either}
-use Rattle.answers.specs.Kind.{kind_number}
 use Rattle.header.specs.declared.ids.RequestId.{RequestId}
 use Rattle.answers.specs.declared.kind.Kind.{Kind}
 use Rattle.wire.specs.declared.message.IoCompleted.{IoCompleted}
@@ -28,7 +27,7 @@ use Rattle.rules.specs.Completion.{closes, io_completed, no_data_completed, resu
 use Rattle.rules.specs.declared.verdict.Act.TheVariants.{Keep, Mark}
 use Rattle.rules.specs.Verdict.{Verdict, refusal_of}
 
-module _ (P : Verdict → Type 0) (k : Kind) (refuses : (a : Answer) → 7 ≤ answer_number a → P (Err (refusal_of (kind_number k) a))) where
+module _ (P : Verdict → Type 0) (k : Kind) (refuses : (a : Answer) → 7 ≤ answer_number a → P (Err (refusal_of (Some k) a))) where
   -- a request takes the row that was found free, where nothing is open under its id
   pub taken_has : (r : Request) (s : Sort) (here : Held) (free : Option ℕ) → ((at : ℕ) → here ≡ held.Nothing → P (taken_at k r s (Some at))) → P (taken k r s here free)
   unfolding taken

@@ -18,7 +18,7 @@ use Rattle.table.specs.declared.table.Table.{Table}
 use Rattle.journal.specs.Calls.{Asks, Call, called, called_by, closing, judging, side_by, stamp_by}
 use Rattle.promises.specs.Demand1.{Demand1}
 use Rattle.promises.proofs.Verdicts.{Proper, proper}
-use Rattle.rules.specs.Verdict.{Verdict}
+use Rattle.rules.specs.Verdict.{Verdict, kind_told}
 
 -- a list with what stands at a place put there again
 pub set_same : {A : Type 0} (l : List A) (i : ℕ) (d : A) → set l i (get_or l i d) ≡ l
@@ -59,7 +59,7 @@ module _ (t : Table) (x : Call) where
     refusal_1 = λ e. let q = e in absurd (omega (arith, h.0));
     refusal = λ n p. ap (λ l. record { next = t.next + 1; channels = l }) (set_same t.channels x.channel blank_channel);
     entered = λ n. record {
-      entry = refused_entry t.next x.channel (side_by x.asks) (stamp_by x.asks) r.kind r.answer;
+      entry = refused_entry t.next x.channel (side_by x.asks) (stamp_by x.asks) (kind_told r.kind) r.answer;
       one = refl;
       number = refl;
       answer = refl;

@@ -44,7 +44,7 @@ use Rattle.promises.proofs.Story.{kind_for, open_is, Opens, Picks, Story, story,
 use Rattle.promises.proofs.Story.{Is as Holds}
 use Rattle.promises.proofs.Verdicts.{Proper, proper}
 use Rattle.promises.proofs.Kept.{as_was, Backed, changed_there, From, Kept, length_put, less, names_none, Newly, one_more, put, row_set, row_used, row_in, sub}
-use Rattle.rules.specs.Verdict.{Verdict}
+use Rattle.rules.specs.Verdict.{Verdict, kind_told}
 
 -- ---- what a row holds
 -- a marked row holds its request, with the mark, and is for the same kinds
@@ -257,7 +257,7 @@ said_well : (h : List Entry) (t : Table) (ch side stamp : ℕ) → Kept h t → 
     → (v : Verdict) → Proper v → Story (channel_of t ch) t.next v → Well h (judged_by t ch side stamp v)
 unfolding after_of answer_of judged_entry
 said_well h t ch side stamp k s one low (Err r) p w =
-    inr (refused_entry t.next ch side stamp r.kind r.answer, (refl, names_none h _ refl (λ z. absurd (omega (arith, z, p.0))), still h _ t _ k s (λ z. absurd (omega (arith, z, p.0))) refl refl refl (set_same t.channels ch blank_channel)))
+    inr (refused_entry t.next ch side stamp (kind_told r.kind) r.answer, (refl, names_none h _ refl (λ z. absurd (omega (arith, z, p.0))), still h _ t _ k s (λ z. absurd (omega (arith, z, p.0))) refl refl refl (set_same t.channels ch blank_channel)))
 said_well h t ch side stamp k s one low (Ok a) p w =
     let f = by_act h t ch side stamp k s one low a a.act w in
     inr (accepted_entry t.next ch side stamp a, (refl, f.0, f.1))

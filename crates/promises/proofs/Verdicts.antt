@@ -20,13 +20,13 @@ use Rattle.promises.proofs.Decided.{cancelled_has, io_has, no_data_has, out_has,
 use Rattle.wire.specs.declared.message.Asked.{Asked}
 use Rattle.wire.specs.declared.message.Unfit.{Unfit}
 use Rattle.wire.specs.declared.message.Unfit.TheVariants as unfit
-use Rattle.rules.specs.Verdict.{Verdict}
+use Rattle.rules.specs.Verdict.{Verdict, kind_told}
 
 abbrev Late : ℕ → ℕ → Type 0
 Late n k = (3 ≤ n) × (n ≤ 5 → k ≡ 0)
 
 abbrev pub Proper : Verdict → Type 0
-Proper (Err r) = Late (answer_number r.answer) r.kind
+Proper (Err r) = Late (answer_number r.answer) (kind_told r.kind)
 Proper (Ok a) = Unit {0}
 
 late : (n k : ℕ) → 6 ≤ n → Late n k
@@ -52,7 +52,7 @@ decided_proper k (Ok (asks.UrbCompletion c)) n jitter seen = urb_has Proper k (r
 decided_proper k (Ok (asks.UrbCompletionNoData c)) n jitter seen = no_data_has Proper k (refuses k) c seen.here (λ at o e. tt) (λ at o e. tt)
 
 abbrev Admits : Admitted → Type 0
-Admits (Err r) = Late (answer_number r.answer) r.kind
+Admits (Err r) = Late (answer_number r.answer) (kind_told r.kind)
 Admits (Ok (k, a)) = Unit {0}
 
 by_proper : (c : Channel) (n : ℕ) (a : Admitted) → Admits a → Proper (verdict_by c n a)

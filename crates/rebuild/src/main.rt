@@ -65,7 +65,7 @@ fn of_record(t: Table, bytes: &[u8], made: &mut [u8; LONGEST]) -> Table {
     }
     let m = &bytes[HEAD..];
     let j = judge(t, h.channel, h.side, h.stamp, m);
-    match kind::of(j.entry) {
+    match kind::of(&j) {
         None => {
             io::write_all(1, bytes);
         }

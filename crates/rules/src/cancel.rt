@@ -3,17 +3,18 @@ ghost use Rattle.std.specs.Prelude.{◌≡◌};
 ghost use Rattle.rules.specs.Cancel.{accepted_cancel, cancelled, marks};
 
 use crate::verdict;
-use crate::verdict::{Accepted, Act, NO_PAYLOAD, Refusal};
+use crate::verdict::{Accepted, Act, Refusal};
 use answers::kind::Kind;
 use channel::row::Open;
 use header::ids::RequestId;
 use requests::open::Held;
+use words::layout::Part;
 
 // A cancel that gets as far as the rows is accepted, with its id, no size and no payload.
 fn accept(kind: Kind, id: RequestId, cause: u32, act: Act) -> Result<Accepted, Refusal>
     ensures { result ≡ accepted_cancel kind id cause act }
 {
-    verdict::accept(kind, id.number(), cause, 0, NO_PAYLOAD, act)
+    verdict::accept(kind, id.number(), cause, 0, Part::EMPTY, act)
 }
 
 // The first cancel of an open request marks its row and names it; a later one does neither.

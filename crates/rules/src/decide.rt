@@ -4,13 +4,14 @@ ghost use Rattle.wire.specs.Message.{empty_part};
 ghost use Rattle.rules.specs.Verdict.{accepted};
 ghost use Rattle.rules.specs.Decide.{decided};
 
-use crate::verdict::{Accepted, Act, NO_PAYLOAD, Refusal};
+use crate::verdict::{Accepted, Act, Refusal};
 use crate::{cancel, completion, request, verdict};
 use answers::answer::Answer;
 use answers::kind::Kind;
 use channel::row::Sort;
 use requests::open::Held;
 use wire::message::{Asked, Unfit};
+use words::layout::Part;
 
 // What was found in the rows: what is open under the message's RequestId, the lowest free row, how many are open.
 #[derive(Clone, Copy)]
@@ -24,7 +25,7 @@ pub struct Seen {
 fn accept(kind: Kind, size: u32, act: Act) -> Result<Accepted, Refusal>
     ensures { result ≡ accepted kind 0 0 size empty_part act }
 {
-    verdict::accept(kind, 0, 0, size, NO_PAYLOAD, act)
+    verdict::accept(kind, 0, 0, size, Part::EMPTY, act)
 }
 
 // The number is the one that the call's entry gets; it is stored with a request, and no rule looks at it.

@@ -38,20 +38,18 @@ pub struct Accepted {
     pub act: Act,
 }
 
-// A refused message: its entry's kind, which is 0 where it has none, and why.
+// A refused message: its kind, if it has one, and why.
 #[derive(Clone, Copy)]
 pub struct Refusal {
-    pub kind: u8,
+    pub kind: Option<Kind>,
     pub answer: Answer,
 }
-
-pub(crate) const NO_PAYLOAD: Part = Part { start: 0, size: 0 };
 
 pub(crate) fn refuse(kind: Kind, answer: Answer) -> Result<Accepted, Refusal>
     ensures { result ≡ refused kind answer }
 {
     Err(Refusal {
-        kind: u8::from(kind),
+        kind: Some(kind),
         answer,
     })
 }

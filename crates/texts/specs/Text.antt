@@ -6,11 +6,14 @@ use Rattle.texts.specs.declared.text.Text.{Text}
 use Rattle.words.specs.declared.layout.Fault.{Fault}
 
 -- the last of n units that end at a place, and the one before it: 0 where there is none
+abbrev pub unit_back : List ℕ → ℕ → ℕ → ℕ → ℕ
+unit_back m n end back = cond (ltb n back) 0 (half_at m (end - 2 * back))
+
 abbrev pub last_unit : List ℕ → ℕ → ℕ → ℕ
-last_unit m n end = cond (eqb n 0) 0 (half_at m (end - 2))
+last_unit m n end = unit_back m n end 1
 
 abbrev pub prior_unit : List ℕ → ℕ → ℕ → ℕ
-prior_unit m n end = cond (ltb n 2) 0 (half_at m (end - 4))
+prior_unit m n end = unit_back m n end 2
 
 -- n units from a place on
 unfoldable pub units_of : List ℕ → ℕ → ℕ → Result (Text × ℕ) Fault

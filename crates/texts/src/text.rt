@@ -2,8 +2,8 @@
 //
 //   at    count  4
 //   at+4  units  2 * count
-ghost use Rattle.std.specs.Prelude.{◌≡◌, ◌*◌, ◌≤◌, length};
-ghost use Rattle.texts.specs.Text.{text_of, last_unit, prior_unit, text_allowed, list_allowed};
+ghost use Rattle.std.specs.Prelude.{◌≡◌, ◌*◌, ◌≤◌};
+ghost use Rattle.texts.specs.Text.{text_of, unit_back, text_allowed, list_allowed};
 
 use words::layout::{Fault, Part, field};
 use words::numbers::{u16_at, u32_at};
@@ -32,55 +32,36 @@ pub fn read(m: &[u8], at: usize) -> Result<(Text, usize), Fault>
     field(m, start, size)?;
     let end = start + size;
     let text = Text {
-        count: count,
-        units: Part {
-            start: start,
-            size: size,
-        },
-        last: last_unit(m, count, end),
-        prior: prior_unit(m, count, end),
+        count,
+        units: Part { start, size },
+        last: unit_back(m, count, end, 1),
+        prior: unit_back(m, count, end, 2),
     };
     Ok((text, end))
 }
 
-fn last_unit(m: &[u8], count: u32, end: usize) -> u32
+// The unit that stands so many units before the end, 0 where there are fewer.
+fn unit_back(m: &[u8], count: u32, end: usize, back: u32) -> u32
     requires count_bound { 2 * count ≤ end }
-    requires end_in_bounds { end ≤ length m.now }
-    ensures { result ≡ last_unit m.now count end }
+    ensures { result ≡ unit_back m.now count end back }
 {
-    if count == 0 {
-        return 0;
+    if count < back {
+        0
+    } else {
+        u16_at(m, end - 2 * back as usize)
     }
-    u16_at(m, end - 2)
-}
-
-fn prior_unit(m: &[u8], count: u32, end: usize) -> u32
-    requires count_bound { 2 * count ≤ end }
-    requires end_in_bounds { end ≤ length m.now }
-    ensures { result ≡ prior_unit m.now count end }
-{
-    if count < 2 {
-        return 0;
-    }
-    u16_at(m, end - 4)
 }
 
 // A text that ends in unit 0, if it has a unit.
 pub fn allowed(t: Text) -> bool
     ensures { result ≡ text_allowed t }
 {
-    if Text::MOST < t.count {
-        return false;
-    }
-    t.last == 0
+    t.count <= Text::MOST && t.last == 0
 }
 
 // A list of texts ends so too, and in two units 0, if it has two.
 pub fn list_allowed(t: Text) -> bool
     ensures { result ≡ list_allowed t }
 {
-    if !allowed(t) {
-        return false;
-    }
-    t.prior == 0
+    allowed(t) && t.prior == 0
 }

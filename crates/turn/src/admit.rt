@@ -1,5 +1,5 @@
 // Answers 3 to 6, which go by the message and the channel's phase and interfaces alone; then what the message asks.
-ghost use Rattle.std.specs.Prelude.{◌≡◌};
+ghost use Rattle.std.specs.Prelude.{◌≡◌, None};
 ghost use Rattle.rules.specs.Verdict.{refusal_of};
 ghost use Rattle.turn.specs.Admit.{admitted, asks_in};
 
@@ -16,9 +16,9 @@ const LONGEST: usize = 65535;
 
 // A refusal of a message of no known kind.
 fn unknown(answer: Answer) -> Refusal
-    ensures { result ≡ refusal_of 0 answer }
+    ensures { result ≡ refusal_of None answer }
 {
-    Refusal { kind: 0, answer }
+    Refusal { kind: None, answer }
 }
 
 // A message of a kind: it may come in some phase only.
@@ -28,7 +28,7 @@ fn in_phase(phase: u8, kind: Kind, m: &[u8]) -> Result<(Kind, Result<Asked, Unfi
 {
     if phase::of(kind).before != phase {
         return Err(Refusal {
-            kind: u8::from(kind),
+            kind: Some(kind),
             answer: Answer::WrongPhase,
         });
     }

@@ -5,9 +5,9 @@
 ghost use Rattle.std.specs.Prelude.{◌≡◌};
 ghost use Rattle.urb.specs.TsUrb.{sized, bulk_or_interrupt_transfer};
 
-use crate::ts_urb::Urb;
-use words::layout::{Fault, agrees};
-use words::numbers::{rest, u32_at};
+use crate::ts_urb::{Urb, sized};
+use words::layout::Fault;
+use words::numbers::u32_at;
 
 #[derive(Clone, Copy)]
 pub struct BulkOrInterruptTransfer {
@@ -24,10 +24,13 @@ impl BulkOrInterruptTransfer {
 pub(crate) fn read(u: &[u8]) -> Result<(Urb, usize), Fault>
     ensures { result ≡ sized bulk_or_interrupt_transfer u.now }
 {
-    agrees(rest(u, 16) == BulkOrInterruptTransfer::SIZE, 16)?;
     let transfer = BulkOrInterruptTransfer {
         pipe: u32_at(u, 24),
         flags: u32_at(u, 28),
     };
-    Ok((Urb::BulkOrInterruptTransfer(transfer), u.len()))
+    sized(
+        u,
+        BulkOrInterruptTransfer::SIZE,
+        Urb::BulkOrInterruptTransfer(transfer),
+    )
 }

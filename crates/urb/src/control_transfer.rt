@@ -6,9 +6,9 @@
 ghost use Rattle.std.specs.Prelude.{◌≡◌};
 ghost use Rattle.urb.specs.TsUrb.{sized, control_transfer};
 
-use crate::ts_urb::Urb;
-use words::layout::{Fault, Part, agrees};
-use words::numbers::{rest, u32_at};
+use crate::ts_urb::{Urb, sized};
+use words::layout::{Fault, Part};
+use words::numbers::u32_at;
 
 #[derive(Clone, Copy)]
 pub struct ControlTransfer {
@@ -26,11 +26,10 @@ impl ControlTransfer {
 pub(crate) fn read(u: &[u8]) -> Result<(Urb, usize), Fault>
     ensures { result ≡ sized control_transfer u.now }
 {
-    agrees(rest(u, 16) == ControlTransfer::SIZE, 16)?;
     let transfer = ControlTransfer {
         pipe: u32_at(u, 24),
         flags: u32_at(u, 28),
         setup: Part { start: 32, size: 8 },
     };
-    Ok((Urb::ControlTransfer(transfer), u.len()))
+    sized(u, ControlTransfer::SIZE, Urb::ControlTransfer(transfer))
 }

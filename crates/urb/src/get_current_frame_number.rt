@@ -2,9 +2,8 @@
 ghost use Rattle.std.specs.Prelude.{◌≡◌};
 ghost use Rattle.urb.specs.TsUrb.{sized, get_current_frame_number};
 
-use crate::ts_urb::Urb;
-use words::layout::{Fault, agrees};
-use words::numbers::rest;
+use crate::ts_urb::{Urb, sized};
+use words::layout::Fault;
 
 #[derive(Clone, Copy)]
 pub struct GetCurrentFrameNumber {}
@@ -18,6 +17,5 @@ impl GetCurrentFrameNumber {
 pub(crate) fn read(u: &[u8]) -> Result<(Urb, usize), Fault>
     ensures { result ≡ sized get_current_frame_number u.now }
 {
-    agrees(rest(u, 16) == GetCurrentFrameNumber::SIZE, 16)?;
-    Ok((Urb::GetCurrentFrameNumber, u.len()))
+    sized(u, GetCurrentFrameNumber::SIZE, Urb::GetCurrentFrameNumber)
 }

@@ -4,9 +4,9 @@
 ghost use Rattle.std.specs.Prelude.{◌≡◌};
 ghost use Rattle.urb.specs.TsUrb.{sized, abort_pipe};
 
-use crate::ts_urb::Urb;
-use words::layout::{Fault, agrees};
-use words::numbers::{rest, u32_at};
+use crate::ts_urb::{Urb, sized};
+use words::layout::Fault;
+use words::numbers::u32_at;
 
 #[derive(Clone, Copy)]
 pub struct PipeRequest {
@@ -24,9 +24,8 @@ impl PipeRequest {
 pub(crate) fn read(u: &[u8]) -> Result<(Urb, usize), Fault>
     ensures { result ≡ sized abort_pipe u.now }
 {
-    agrees(rest(u, 16) == PipeRequest::SIZE, 16)?;
     let request = PipeRequest {
         pipe: u32_at(u, 24),
     };
-    Ok((Urb::PipeRequest(request), u.len()))
+    sized(u, PipeRequest::SIZE, Urb::PipeRequest(request))
 }

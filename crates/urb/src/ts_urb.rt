@@ -5,7 +5,8 @@
 //   20  RequestId     31 bits
 //       NoAck          1 bit, the top one of the same word
 //   24  by function
-ghost use Rattle.std.specs.Prelude.{◌≡◌};
+ghost use Rattle.std.specs.Prelude.{◌≡◌, eqb, length, Ok};
+ghost use Rattle.words.specs.Layout.{agrees, left};
 ghost use Rattle.urb.specs.TsUrb.{ts_urb_of, structure_of, one_size_of};
 
 use crate::bulk_or_interrupt_transfer::BulkOrInterruptTransfer;
@@ -89,4 +90,12 @@ fn one_size(u: &[u8], function: u32) -> Result<(Urb, usize), Fault>
         ControlTransfer::FUNCTION => control_transfer::read(u),
         _ => Ok((Urb::Unknown, u.len())),
     }
+}
+
+// A structure of one size, where the TsUrb has that size.
+pub(crate) fn sized(u: &[u8], size: usize, urb: Urb) -> Result<(Urb, usize), Fault>
+    ensures { result ≡ agrees (eqb (left u.now 16) size) 16 (Ok (urb, length u.now)) }
+{
+    agrees(rest(u, 16) == size, 16)?;
+    Ok((urb, u.len()))
 }

@@ -3,7 +3,7 @@
 //   12  CbTsUrb           4  at least 8
 //   16  TsUrb             CbTsUrb
 //    e  OutputBufferSize  4
-ghost use Rattle.std.specs.Prelude.{◌≡◌, ◌≤◌, length};
+ghost use Rattle.std.specs.Prelude.{◌≡◌};
 ghost use Rattle.wire.specs.Transfer.{transfer_of, output_of};
 
 use urb::ts_urb;

@@ -14,7 +14,7 @@ use crate::message::{Asked, Request};
 use crate::transfer;
 use urb::ts_urb::TsUrb;
 use urb_values::values;
-use words::layout::{Fault, Part, ended};
+use words::layout::{Fault, Part, ended, filled};
 
 #[derive(Clone, Copy)]
 pub struct TransferInRequest {
@@ -40,9 +40,7 @@ impl MessageBody for TransferInRequest {
     #[tactic(auto, unfolding(crate::specs::TransferInRequest::transfer_in_request_of))]
     fn read(m: &[u8]) -> Result<TransferInRequest, Fault> {
         let t = transfer::read(m)?;
-        if t.last < t.end {
-            return Err(Fault::LeftOver(t.last));
-        }
+        filled(t.last, t.end)?;
         ended(m, t.after)?;
         Ok(TransferInRequest {
             urb: t.urb,
@@ -60,7 +58,7 @@ impl MessageBody for TransferInRequest {
             request: self.urb.request,
             size: self.size,
             noack: self.urb.noack,
-            payload: Part { start: 0, size: 0 },
+            payload: Part::EMPTY,
         })
     }
 

@@ -15,7 +15,7 @@ use crate::transfer;
 use crate::transfer::Transfer;
 use urb::ts_urb::TsUrb;
 use urb_values::values;
-use words::layout::{Fault, Part, ended, field};
+use words::layout::{Fault, Part, ended, field, filled};
 
 #[derive(Clone, Copy)]
 pub struct TransferOutRequest {
@@ -67,9 +67,7 @@ fn outgoing(m: &[u8], t: Transfer) -> Result<TransferOutRequest, Fault>
 {
     let size = t.size as usize;
     field(m, t.after, size)?;
-    if t.last < t.end {
-        return Err(Fault::LeftOver(t.last));
-    }
+    filled(t.last, t.end)?;
     ended(m, t.after + size)?;
     Ok(TransferOutRequest {
         urb: t.urb,

@@ -57,7 +57,7 @@ impl MessageBody for UrbCompletionNoData {
         Asked::UrbCompletionNoData(UrbCompleted {
             request: self.request,
             size: self.size,
-            payload: Part { start: 0, size: 0 },
+            payload: Part::EMPTY,
         })
     }
 

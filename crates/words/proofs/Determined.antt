@@ -21,6 +21,8 @@ use Rattle.words.proofs.layout.ended.Reads as ended
 use Rattle.words.proofs.layout.ended.Kinds as ended_kinds
 use Rattle.words.proofs.layout.agrees.Reads as agrees
 use Rattle.words.proofs.layout.agrees.Kinds as agrees_kinds
+use Rattle.words.proofs.layout.filled.Reads as filled
+use Rattle.words.proofs.layout.filled.Kinds as filled_kinds
 
 -- What a public contract owes: it can always be called, and it leaves its result no choice.
 pub record Determined (n : ℕ) (ps : List (ParamKind n)) (r : ResultKind n) (pre : In n ps) (post : Out n ps r) : Type 0 where
@@ -54,3 +56,6 @@ ended_determined = record { asks_nothing = λ κs a. tt; one_result = λ κs a x
 
 pub agrees_determined : Determined 0 agrees_kinds.ps agrees_kinds.r agrees.Pre agrees.Post
 agrees_determined = record { asks_nothing = λ κs a. tt; one_result = λ κs a x y s t p q. same x y _ p q }
+
+pub filled_determined : Determined 0 filled_kinds.ps filled_kinds.r filled.Pre filled.Post
+filled_determined = record { asks_nothing = λ κs a. tt; one_result = λ κs a x y s t p q. same x y _ p q }

@@ -1,7 +1,7 @@
 // What the size readers share: a part of a message, what may break, and the tests that most of them are made of.
 
 ghost use Rattle.std.specs.Prelude.{◌≡◌, Ok};
-ghost use Rattle.words.specs.Layout.{field, ended, agrees};
+ghost use Rattle.words.specs.Layout.{field, ended, agrees, filled};
 
 use crate::numbers::rest;
 
@@ -10,6 +10,11 @@ use crate::numbers::rest;
 pub struct Part {
     pub start: usize,
     pub size: usize,
+}
+
+impl Part {
+    // no bytes, at the message's start
+    pub const EMPTY: Part = Part { start: 0, size: 0 };
 }
 
 // Why sizes do not add up, and at which byte of the message.
@@ -49,6 +54,16 @@ pub fn agrees(test: bool, at: usize) -> Result<(), Fault>
 {
     if !test {
         return Err(Fault::Disagrees(at));
+    }
+    Ok(())
+}
+
+// Holds what was read up to a place against the place up to which it was set aside: no byte between the two.
+pub fn filled(at: usize, end: usize) -> Result<(), Fault>
+    ensures { result ≡ filled at end (Ok tt) }
+{
+    if at < end {
+        return Err(Fault::LeftOver(at));
     }
     Ok(())
 }

@@ -15,7 +15,7 @@ pub struct RegisterRequestCallbackFields {
     pub completion: Option<u32>,
 }
 
-// A Option<u32> exactly when the count is not 0, of an interface that may be given.
+// A RequestCompletion exactly when the count is not 0, of an interface that may be given.
 fn completion_allowed(count: u32, completion: Option<u32>) -> bool
     ensures { result ≡ completion_allowed count completion }
 {

@@ -94,14 +94,13 @@ pub(crate) fn in_pieces(id: MessageId, interface: u32, b: TransferInFields) -> [
     requires { Small b.urb.structure }
     ensures { result ≡ padded (transfer_pieces id interface 0x105 b.urb b.size empty_part) }
 {
-    let nothing = Part { start: 0, size: 0 };
     pieces(
         id,
         interface,
         TransferInRequest::FUNCTION,
         b.urb,
         b.size as usize,
-        nothing,
+        Part::EMPTY,
     )
 }
 

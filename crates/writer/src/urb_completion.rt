@@ -99,13 +99,12 @@ pub(crate) fn no_data_pieces(
     requires { b.urb.rest.size ≤ 65535 }
     ensures { result ≡ padded (completion_pieces id interface 0x102 b.urb b.size empty_part) }
 {
-    let nothing = Part { start: 0, size: 0 };
     result_pieces(
         id,
         interface,
         UrbCompletionNoData::FUNCTION,
         b.urb,
         b.size as usize,
-        nothing,
+        Part::EMPTY,
     )
 }

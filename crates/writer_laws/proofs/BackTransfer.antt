@@ -1,6 +1,6 @@
 -- What is written of a transfer request is read back as the same fields.
 use Rattle.std.proofs.lemmas.Bool.{and_parts}
-use Rattle.std.specs.Prelude.{Option, Some, None, Ok, Err}
+use Rattle.std.specs.Prelude.{Option, Some, None, Ok}
 use Prim.Native.Nat.{ℕ, suc, ◌+◌, ◌-◌, ◌*◌, ◌/◌, ◌%◌, ◌<◌, ◌≤◌}
 use native.Mathlib.Omega.{arith}
 use mathlib.Core.Path.{◌≡◌, refl, ap, sym, subst, ◌∙◌}
@@ -58,7 +58,6 @@ use Rattle.writer_laws.proofs.Rebuilt.{both, refused}
 use Rattle.writer_laws.proofs.Walks.{along, half-take, word-take}
 use Rattle.writer_laws.proofs.Back.{Back, agrees_there, at_least_there, below_30, ended_there, field_there, filled_there, first_below, interface_back, long_of, message_back, part_small, same, some}
 use Rattle.writer_laws.proofs.BackUrb.{fills, held, nothing, structure_back, unmet}
-use Rattle.urb.specs.declared.ts_urb.TsUrb.{TsUrb}
 
 -- an interface list that fills its part is whole rows
 list_rows : (s : List ℕ) (p : Part) (count pipes : ℕ) → listed_of s p count ≡ Some pipes → part_allowed s p ≡ true → (r : ℕ) × (p.size ≡ 12 * r)

@@ -1,14 +1,14 @@
 -- ADD_DEVICE is rebuilt from its fields.
 use Rattle.std.proofs.lemmas.Bool.{and_parts}
 use Rattle.std.specs.Prelude.{Result, Ok, Err}
-use Prim.Native.Nat.{ℕ, zero, suc, ◌+◌, ◌-◌, ◌*◌, ◌/◌, ◌%◌, ◌≤◌}
+use Prim.Native.Nat.{ℕ, ◌+◌, ◌-◌, ◌*◌, ◌/◌, ◌%◌, ◌≤◌}
 use native.Mathlib.Omega.{arith}
 use mathlib.Core.Path.{◌≡◌, refl, ap, sym, ◌∙◌}
 use mathlib.Core.List.{List, [], ◌∷◌}
 use mathlib.Core.Bool.{Bool, true, false, cond, ◌&&◌}
 use lib.ListN.{length}
 use lib.Dec.{ltb, eqb}
-use borrow.Author.Tests.{le-ltb, eq-eqb, eqb-false, ltb-false, ne_eqb}
+use borrow.Author.Tests.{ltb-true, lt-ltb, le-ltb, eq-eqb, ltb-false}
 use Rattle.words.specs.Words.{half_at, word_at}
 use Rattle.words.specs.Layout.{left}
 use Rattle.words.specs.declared.layout.Part.{Part}
@@ -41,15 +41,13 @@ use Rattle.wire.specs.declared.message.Unfit.{Unfit}
 abbrev pub text_at : List ℕ → ℕ → Text
 text_at m at = record { count = word_at m at; units = record { start = at + 4; size = 2 * word_at m at }; last = last_unit m (word_at m at) (at + 4 + 2 * word_at m at); prior = prior_unit m (word_at m at) (at + 4 + 2 * word_at m at) }
 
--- the last units of so many bytes are those of so many units
-last_same : (n : ℕ) → ltb (2 * n) 2 ≡ eqb n 0
-last_same zero = refl
-last_same (suc n) = rw (le-ltb (2 * suc n) 2 (omega arith), ne_eqb (suc n) 0 (omega arith))
-
-prior_same : (n : ℕ) → ltb (2 * n) 4 ≡ ltb n 2
-prior_same zero = refl
-prior_same (suc zero) = refl
-prior_same (suc (suc n)) = rw (le-ltb (2 * suc (suc n)) 4 (omega arith), le-ltb (suc (suc n)) 2 (omega arith))
+-- fewer bytes than so many units have are fewer units
+units_same : (n b : ℕ) → ltb (2 * n) (2 * b) ≡ ltb n b
+units_same n b = go (ltb n b) refl
+  where
+    go : (t : Bool) → ltb n b ≡ t → ltb (2 * n) (2 * b) ≡ t
+    go true e = let h = ltb-true n b e in lt-ltb (2 * n) (2 * b) (omega arith)
+    go false e = let h = ltb-false n b e in le-ltb (2 * n) (2 * b) (omega arith)
 
 pub doubled : (n : ℕ) → 2 * n / 2 ≡ n
 doubled n = omega arith
@@ -58,12 +56,8 @@ unit_at : (m : List ℕ) (t u : Bool) (a b : ℕ) → t ≡ u → (u ≡ false �
 unit_at m t true a b e f = rw e
 unit_at m t false a b e f = rw (e, f refl)
 
-back_2 : (at n : ℕ) → (n ≡ 0 → ⊥) → at + (2 * n - 2) ≡ at + 2 * n - 2
-back_2 at zero h = absurd (h refl)
-back_2 at (suc n) h = omega arith
-
-back_4 : (at n : ℕ) → 2 ≤ n → at + (2 * n - 4) ≡ at + 2 * n - 4
-back_4 at n h = omega arith
+back_by : (at n b : ℕ) → b ≤ n → at + (2 * n - 2 * b) ≡ at + 2 * n - 2 * b
+back_by at n b h = omega arith
 
 even : (n : ℕ) → 2 * n % 2 ≡ 0
 even n = omega arith
@@ -77,8 +71,8 @@ text_fields a b c d a' c' d' p e f g = rw (e, f, g)
 pub text_same : (m : List ℕ) (at : ℕ) → text_given m (record { start = at + 4; size = 2 * word_at m at }) ≡ text_at m at
 text_same m at =
     text_fields _ 0 _ _ _ _ _ (record { start = at + 4; size = 2 * word_at m at }) (doubled (word_at m at))
-    (unit_at m (ltb (2 * word_at m at) 2) (eqb (word_at m at) 0) _ _ (last_same (word_at m at)) (λ e. back_2 (at + 4) (word_at m at) (eqb-false (word_at m at) 0 e)))
-    (unit_at m (ltb (2 * word_at m at) 4) (ltb (word_at m at) 2) _ _ (prior_same (word_at m at)) (λ e. back_4 (at + 4) (word_at m at) (ltb-false (word_at m at) 2 e)))
+    (unit_at m (ltb (2 * word_at m at) 2) (ltb (word_at m at) 1) _ _ (units_same (word_at m at) 1) (λ e. back_by (at + 4) (word_at m at) 1 (ltb-false (word_at m at) 1 e)))
+    (unit_at m (ltb (2 * word_at m at) 4) (ltb (word_at m at) 2) _ _ (units_same (word_at m at) 2) (λ e. back_by (at + 4) (word_at m at) 2 (ltb-false (word_at m at) 2 e)))
 
 fits_by : (m : List ℕ) (at : ℕ) (allows : Text → Bool) → at + 4 + 2 * word_at m at ≤ length m → length m ≤ 65535 → allows (text_at m at) ≡ true
     → (part_allowed m (record { start = at + 4; size = 2 * word_at m at }) && (eqb (2 * word_at m at % 2) 0 && allows (text_given m (record { start = at + 4; size = 2 * word_at m at })))) ≡ true

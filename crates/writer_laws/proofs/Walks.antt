@@ -1,5 +1,5 @@
 -- Two interface lists whose rows are alike are walked alike, wherever they stand: the walk looks at Length and NumberOfPipes alone.
-use Rattle.std.specs.Prelude.{Result, Ok, Err, max}
+use Rattle.std.specs.Prelude.{Ok, Err, max}
 use Prim.Native.Nat.{ℕ, zero, suc, ◌+◌, ◌-◌, ◌*◌, ◌/◌, ◌<◌, ◌≤◌}
 use native.Mathlib.Omega.{arith}
 use mathlib.Core.Path.{◌≡◌, refl, subst}
@@ -15,7 +15,6 @@ use Rattle.words.proofs.Steps.{ok_value, ok_end}
 use Rattle.words.specs.declared.layout.Fault.TheVariants.{RanOut, Disagrees}
 use Rattle.urb.specs.Interfaces.{interface_field, interfaces_of, length_agrees, pipes_of}
 use Rattle.urb.proofs.Walk.{never, interfaces_end, pipes_closed, pipes_end}
-use Rattle.words.specs.declared.layout.Fault.{Fault}
 
 -- row by row the same Length, or the same two bytes there, and the same NumberOfPipes
 abbrev pub Alike : List ℕ → List ℕ → ℕ → ℕ → ℕ → Type 0
