@@ -1,6 +1,6 @@
 // A search of a channel's rows.
 ghost use Rattle.std.specs.Prelude.{◌≡◌, position};
-ghost use Rattle.rows.specs.Search.{free, lowest_of, open_count};
+ghost use Rattle.rows.specs.Search.{free, lowest_of, open_count, used};
 
 use channel::channel::Channel;
 use channel::row::{Row, Sort};
@@ -18,12 +18,20 @@ fn first_free(rows: &[Row]) -> Option<usize>
     rows.iter().position(|r| matches!(r.sort, Sort::Free))
 }
 
-#[tactic(auto, using(crate::proofs::Chains::count_is))]
 pub fn count_open(c: Channel) -> u32
     ensures { result ≡ open_count c.rows }
 {
-    c.rows
-        .iter()
-        .filter(|r| !matches!(r.sort, Sort::Free))
-        .count() as u32
+    let mut n: u32 = 0;
+    for r in &c.rows {
+        if in_use(*r) {
+            n += 1;
+        }
+    }
+    n
+}
+
+fn in_use(r: Row) -> bool
+    ensures { result ≡ used r }
+{
+    !matches!(r.sort, Sort::Free)
 }
