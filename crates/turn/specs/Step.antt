@@ -1,9 +1,10 @@
 -- A message on one channel: answers 3 to 14 and 0, and the channel afterwards.
-use Rattle.std.specs.Prelude.{ℕ, List, Ok, Err}
+use Rattle.std.specs.Prelude.{ℕ, List, Option, Some, None, Ok, Err}
 use Rattle.channel.specs.declared.channel.Channel.{Channel}
 use Rattle.rules.specs.Decide.{decided}
 use Rattle.turn.specs.Admit.{Admitted, admitted}
 use Rattle.turn.specs.Store.{seen_of, stored}
+use Rattle.rules.specs.declared.verdict.Accepted.{Accepted}
 use Rattle.rules.specs.Verdict.{Verdict}
 
 abbrev pub verdict_by : Channel → ℕ → Admitted → Verdict
@@ -17,3 +18,8 @@ verdict_of c number side m = verdict_by c number (admitted c.phase c.device c.ca
 unfoldable pub after_of : Channel → Verdict → Channel
 after_of c (Err r) = c
 after_of c (Ok a) = stored c a.phase a.act
+
+-- the same by what was accepted: nothing that is told of a refusal counts
+unfoldable pub left_of : Channel → Option Accepted → Channel
+left_of c None = c
+left_of c (Some a) = stored c a.phase a.act

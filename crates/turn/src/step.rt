@@ -1,6 +1,6 @@
 // The two calls of a turn: what is said of a message, and what the channel is after it.
 ghost use Rattle.std.specs.Prelude.{◌≡◌};
-ghost use Rattle.turn.specs.Step.{after_of, verdict_of};
+ghost use Rattle.turn.specs.Step.{left_of, verdict_of};
 
 use crate::{admit, store};
 use channel::channel::Channel;
@@ -16,13 +16,13 @@ pub fn judge(c: Channel, number: u32, side: u8, m: &[u8]) -> Result<Accepted, Re
     decide::decide(kind, asked, number, c.jitter, store::see(c, asked))
 }
 
-// The channel afterwards. A refused message leaves it as it was.
-#[tactic(auto, unfolding(crate::specs::Step::after_of))]
-pub fn after(c: Channel, verdict: Result<Accepted, Refusal>) -> Channel
-    ensures { result ≡ after_of c verdict }
+// The channel afterwards, by what was accepted of the message. A refused one leaves it as it was, whatever is told of the refusal.
+#[tactic(auto, unfolding(crate::specs::Step::left_of))]
+pub fn after(c: Channel, accepted: Option<Accepted>) -> Channel
+    ensures { result ≡ left_of c accepted }
 {
-    match verdict {
-        Err(_) => c,
-        Ok(a) => store::keep(c, a.phase, a.act),
+    match accepted {
+        None => c,
+        Some(a) => store::keep(c, a.phase, a.act),
     }
 }
