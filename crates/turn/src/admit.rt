@@ -12,7 +12,8 @@ use kinds::kind::kind_of;
 use rules::verdict::Refusal;
 use wire::message::{Asked, Unfit, ask};
 
-const LONGEST: usize = 65535;
+// The longest message (01 "Answer numbers", 4).
+pub const LONGEST: usize = 65535;
 
 // A refusal of a message of no known kind.
 fn unknown(answer: Answer) -> Refusal
