@@ -11,3 +11,6 @@ pub returns-in_err-end : goal.returns-in_err-end
 returns-in_err-end c =
     let q : interfaces_of c.args.s.now c.args.count 0 c.args.at ≡ Err c.in_err-end.field-0.0 = c.loop-left.invariant ∙ interfaces_split _ 32 _ _ _ (omega arith) ∙ rw (← c.in_err-end.ensures) refl in
     search rules
+
+pub interface-requires-2 : goal.interface-requires-2
+interface-requires-2 c = omega arith
