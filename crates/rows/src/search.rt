@@ -18,6 +18,7 @@ fn first_free(rows: &[Row]) -> Option<usize>
     rows.iter().position(|r| matches!(r.sort, Sort::Free))
 }
 
+// A `for`, and no `filter` and `count`: of that chain the compiler keeps the walk where nothing asks for the count.
 pub fn count_open(c: Channel) -> u32
     ensures { result ≡ open_count c.rows }
 {
