@@ -20,7 +20,7 @@ walked p (r ∷ rs) i = ap (cond (p r) (Some i)) (walked p rs (i + 1))
 pub first_is : (p : Row → Bool) (rs : List Row) → first_from p rs 0 ≡ position p rs
 first_is p rs = sym (position_from-zero p rs ∙ walked p rs 0)
 
--- the rows in use are what `filter` and `count` give
+-- how many rows are in use is what `count_by` gives
 pub count_is : (rs : List Row) → open_count rs ≡ count_by used rs
 unfolding open_count
 count_is rs = is_count_by open_count used refl (λ r rs. grind arith) rs
