@@ -17,7 +17,6 @@ pub fn judge(c: Channel, number: u32, side: u8, m: &[u8]) -> Result<Accepted, Re
 }
 
 // The channel afterwards, by what was accepted of the message. A refused one leaves it as it was, whatever is told of the refusal.
-#[tactic(auto, unfolding(crate::specs::Step::left_of))]
 pub fn after(c: Channel, accepted: Option<Accepted>) -> Channel
     ensures { result ≡ left_of c accepted }
 {
